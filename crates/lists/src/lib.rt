@@ -1,0 +1,17 @@
+//! Lists, boxes and texts that contracts see as what they hold.
+#![tactic(auto)]
+
+pub mod list_type;
+pub mod text;
+
+pub use list_type::ListType;
+pub use sqlite_items::{Boxed, Items};
+pub use text::Text;
+
+use std::alloc::AllocError;
+
+/// Memory ran out. It is the one answer whose cause no contract names.
+pub type OutOfMemory = AllocError;
+
+/// Bytes in order.
+pub type Bytes = Items<u8>;
