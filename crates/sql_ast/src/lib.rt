@@ -1,0 +1,23 @@
+//! The parse tree of a query, its tokens, and the spelling of names and literals.
+#![tactic(auto)]
+
+pub mod clauses;
+pub mod expr;
+pub mod grouping;
+pub mod query;
+pub mod refusal;
+pub mod token;
+pub mod type_spelling;
+pub mod words;
+
+pub use clauses::{
+    Aliased, Arg, Binding, Call, Edit, Function, Item, LimitPart, FilterPart, Name, Names, NullsPart, NullsPlace,
+    On, PivotCall, Replacement, Sort, Turn, Turned, UnpivotColumn, When, WithOffset,
+};
+pub use expr::{Comparison, Expr, IndexForm, IsTest, Link, Operator, Part, Prefix, Quantifier, Signed};
+pub use grouping::{Cube, CubeKind, GroupItem, GroupSet, Groups};
+pub use query::{Body, Cte, FromItem, JoinWord, Joined, Primary, Query, Select, SetTerm, Term};
+pub use refusal::Refusal;
+pub use token::{Lexeme, Token};
+pub use type_spelling::{TypeField, TypeSpelling};
+pub use words::{Reserved, Sign, Word};

@@ -1,0 +1,4 @@
+pub mod Fits
+pub mod Same
+pub mod Before
+pub mod Outcome
