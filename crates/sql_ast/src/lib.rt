@@ -4,6 +4,7 @@
 pub mod clauses;
 pub mod expr;
 pub mod grouping;
+pub mod naming;
 pub mod query;
 pub mod refusal;
 pub mod token;
@@ -16,6 +17,7 @@ pub use clauses::{
 };
 pub use expr::{Comparison, Expr, IndexForm, IsTest, Link, Operator, Part, Prefix, Quantifier, Signed};
 pub use grouping::{Cube, CubeKind, GroupItem, GroupSet, Groups};
+pub use naming::{grammar_word, reserved_word, same_name};
 pub use query::{Body, Cte, FromItem, JoinWord, Joined, Primary, Query, Select, SetTerm, Term};
 pub use refusal::Refusal;
 pub use token::{Lexeme, Token};
