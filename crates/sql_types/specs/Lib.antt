@@ -1,4 +1,5 @@
 pub mod Fits
 pub mod Same
 pub mod Before
+pub mod Arranged
 pub mod Outcome

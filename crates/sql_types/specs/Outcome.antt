@@ -1,6 +1,5 @@
 -- Outcomes, and how the outcomes of several things come together.
 use Rattle.std.specs.Prelude.{◌≡◌, ◌⊎◌, List, [], ◌∷◌, Result, Ok, Err}
-use Rattle.std.specs.List.{AllZip}
 use Rattle.sql_types.specs.declared.fault.FaultKind.{FaultKind}
 use Rattle.sql_types.specs.declared.fault.CallFault.{CallFault}
 use Rattle.sql_types.specs.declared.fault.CallFault.TheVariants.{Fault, OutOfMemory}
@@ -31,17 +30,24 @@ pub data ◌>>=◌ {A B : Type 0} (first : Meaning A) (next : A → Meaning B) :
   goes_on : {x : A} {o : Outcome B} → first (Ok x) → next x o → (first >>= next) o
   ends : {fault : FaultKind} → first (Err fault) → (first >>= next) (Err fault)
 
--- it holds of some element
-abbrev pub Has : {X : Type 0} → (X → Type 0) → List X → Type 0
-Has P [] = ⊥
-Has P (x ∷ xs) = P x ⊎ Has P xs
+-- each of the things gives its value
+abbrev pub EachGives : {A : Type 0} → List (Meaning A) → List A → Type 0
+EachGives [] [] = Unit {0}
+EachGives [] (x ∷ xs) = ⊥
+EachGives (m ∷ ms) [] = ⊥
+EachGives (m ∷ ms) (x ∷ xs) = m (Ok x) × EachGives ms xs
+
+-- some of the things may have this fault
+abbrev pub SomeFaults : {A : Type 0} → FaultKind → List (Meaning A) → Type 0
+SomeFaults fault [] = ⊥
+SomeFaults fault (m ∷ ms) = m (Err fault) ⊎ SomeFaults fault ms
 
 -- One permitted outcome of each of several things: their list where all are values, and any one of the faults else.
 -- A fault needs the thing that faults and no outcome of the others. Where each of them has an outcome, as every typed
 -- text and every valid tree has, this permits the same as taking one outcome of each first.
-pub data Gather {X A : Type 0} (means : X → Meaning A) (xs : List X) : Outcome (List A) → Type 0 where
-  all_give : {values : List A} → AllZip (λ x y. means x (Ok y)) xs values → Gather means xs (Ok values)
-  one_faults : {fault : FaultKind} → Has (λ x. means x (Err fault)) xs → Gather means xs (Err fault)
+pub data Gather {A : Type 0} (ms : List (Meaning A)) : Outcome (List A) → Type 0 where
+  all_give : {values : List A} → EachGives ms values → Gather ms (Ok values)
+  one_faults : {fault : FaultKind} → SomeFaults fault ms → Gather ms (Err fault)
 
 -- two things that gather
 pub data Both {A B : Type 0} (left : Meaning A) (right : Meaning B) : Outcome (A × B) → Type 0 where

@@ -1,0 +1,4 @@
+pub mod Scopes
+pub mod Typing
+pub mod Tables
+pub mod Meaning
