@@ -1,0 +1,9 @@
+pub mod Lists
+pub mod Once
+pub mod Walks
+pub mod Agrees
+pub mod Firm
+pub mod Exact
+pub mod Complete
+pub mod Verdict
+pub mod Places

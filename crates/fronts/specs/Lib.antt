@@ -1,0 +1,4 @@
+pub mod Fronts
+pub mod Texts
+pub mod Machines
+pub mod Readers
