@@ -1,16 +1,20 @@
 //! The parse tree of a query, its tokens, and the spelling of names and literals.
 #![tactic(auto)]
 
+pub mod answer_text;
 pub mod clauses;
 pub mod expr;
 pub mod grouping;
 pub mod naming;
 pub mod query;
+pub mod spelling;
 pub mod refusal;
+
 pub mod token;
 pub mod type_spelling;
 pub mod words;
 
+pub use answer_text::rows_text;
 pub use clauses::{
     Aliased, Arg, Binding, Call, Edit, Function, Item, LimitPart, FilterPart, Name, Names, NullsPart, NullsPlace,
     On, PivotCall, Replacement, Sort, Turn, Turned, UnpivotColumn, When, WithOffset,
