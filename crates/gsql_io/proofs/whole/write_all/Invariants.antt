@@ -1,0 +1,15 @@
+use Rattle.std.proofs.Common.{length, ◌-◌, ◌≡◌, ◌≤◌, take, IfNone, None}
+use Rattle.std.specs.Io.KnownBytes.{Appends}
+use Rattle.gsql_io.proofs.whole.write_all.Given as goal
+
+abbrev pub invariant-loop-done : goal.invariant-loop-done
+invariant-loop-done g l =
+    record {
+      within : l.done ≤ length l.bytes;
+      written : Appends (g.S.Sink.written l.fn.sink) (g.S.Sink.written l.sink) (take l.done l.bytes);
+      untold : IfNone (g.S.Sink.written l.fn.sink) (g.S.Sink.written l.sink ≡ None);
+      stays : g.S.Sink.faults l.sink ≡ g.S.Sink.faults l.fn.sink;
+    }
+
+abbrev pub decreases-loop-done : goal.decreases-loop-done
+decreases-loop-done g l = length l.bytes - l.done
