@@ -6,9 +6,8 @@ pub mod text;
 
 pub use list_type::ListType;
 pub use sqlite_items::{Boxed, Items};
-pub use text::Text;
-
 use std::alloc::AllocError;
+pub use text::Text;
 
 /// Memory ran out. It is the one answer whose cause no contract names.
 pub type OutOfMemory = AllocError;

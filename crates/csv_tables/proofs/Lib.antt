@@ -1,0 +1,6 @@
+pub mod Numbers
+pub mod Texts
+pub mod RecordLaws
+pub mod RowLaws
+pub mod FitLaws
+pub mod TableLaws

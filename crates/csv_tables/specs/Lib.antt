@@ -1,0 +1,5 @@
+pub mod Numerals
+pub mod Cells
+pub mod Reads
+pub mod Records
+pub mod Tables

@@ -1,0 +1,174 @@
+//! Table files and their rows.
+use crate::{TableRefusal, read_table};
+use sql_catalog::TableDef;
+use sql_types::{Columns, Items, Named, Rows, SqlType, Text, Value, Values};
+use std::alloc::{AllocError, Global};
+use std::test::Fail;
+
+/// A file for the columns a of INT64 and b of STRING, and its rows by `shown`, or the record and field at fault.
+const FILES: [(&[u8], &str); 38] = [
+    (b"a,b\n1,x\n", "1 <x>"),
+    (b"A,B\r\n1,x\r\n2,y", "1 <x>; 2 <y>"),
+    (b"\xef\xbb\xbfa,b\r1,x\r", "1 <x>"),
+    (b"a,b\n", ""),
+    (b"\n\na,b\n\n\r\n1,x\n\n", "1 <x>"),
+    // quotes
+    (b"\"a\",\"b\"\n\"1\",\"x, y\"\n", "1 <x, y>"),
+    (
+        b"a,b\n1,\"say \"\"x\"\"\r\nand y\"\n",
+        "1 <say \"x\"\r\nand y>",
+    ),
+    (b"a,b\n1,\"x", "1 <x>"),
+    // NULL, and empty cells
+    (b"a,b\n\\N,\\N\n", "NULL NULL"),
+    (b"a,b\n\"\\N\",\"\\N\"\n", "NULL NULL"),
+    (b"a,b\n,\n", "NULL <>"),
+    (b"a,b\n\"\",\"\"\n", "NULL <>"),
+    // backslashes and N
+    (b"a,b\n1,\\\\N\n", "1 <\\N>"),
+    (b"a,b\n1,\\\\\\N\n", "1 <\\\\N>"),
+    (
+        b"a,b\n1,\\n\n2,\\Nx\n3,\\\\\n",
+        "1 <\\n>; 2 <\\Nx>; 3 <\\\\>",
+    ),
+    (b"a,b\n1, \\\\N\n2,\\\\NN\n", "1 < \\\\N>; 2 <\\\\NN>"),
+    (b"a,b\n\\\\N,x\n", "fault 1 0"),
+    // integers
+    (b"a,b\n-0x1F,\n+0xfF,\n", "-31 <>; 255 <>"),
+    (
+        b"a,b\n-0,\n+7,\n0000000000000000000000000000012,\n",
+        "0 <>; 7 <>; 12 <>",
+    ),
+    (
+        b"a,b\n9223372036854775807,\n-9223372036854775808,\n",
+        "9223372036854775807 <>; -9223372036854775808 <>",
+    ),
+    (
+        b"a,b\n0x7fffffffffffffff,\n-0x8000000000000000,\n",
+        "9223372036854775807 <>; -9223372036854775808 <>",
+    ),
+    (b"a,b\n9223372036854775808,\n", "fault 1 0"),
+    (b"a,b\n-9223372036854775809,\n", "fault 1 0"),
+    (b"a,b\n18446744073709551617,\n", "fault 1 0"),
+    (b"a,b\n0x,\n", "fault 1 0"),
+    (b"a,b\n0X1F,\n", "fault 1 0"),
+    (b"a,b\n--1,\n", "fault 1 0"),
+    (b"a,b\n1F,\n", "fault 1 0"),
+    (b"a,b\n 1,\n", "fault 1 0"),
+    // a text that isn't UTF-8
+    (b"a,b\n1,\xff\n", "fault 1 1"),
+    // fields that are missing or too many
+    (b"a,b\n1,x\n5\n", "fault 2 1"),
+    (b"a,b\n1,x,y\n", "fault 1 2"),
+    (b"a,b\nx\n", "fault 1 0"),
+    // the header
+    (b"a\n", "fault 0 1"),
+    (b"a,b,c\n1,x,y\n", "fault 0 2"),
+    (b"b,a\n", "fault 0 0"),
+    (b"a,bb\n", "fault 0 1"),
+    (b"\n\r\n", "fault 0 0"),
+];
+
+#[test]
+fn reads_files(rt: HostRuntime) -> Result<(), Fail> {
+    let alloc = rt.alloc();
+    let mut columns = Items::new(alloc);
+    columns.push(column(alloc, "a", SqlType::Int64)?)?;
+    columns.push(column(alloc, "b", SqlType::Text)?)?;
+    let table = table(alloc, columns)?;
+    for (file, want) in FILES {
+        assert_eq!(rt; answer(alloc, &table, file)?.as_str(), want);
+    }
+    Ok(())
+}
+
+#[test]
+fn reads_one_column(rt: HostRuntime) -> Result<(), Fail> {
+    let alloc = rt.alloc();
+    let mut columns = Items::new(alloc);
+    columns.push(column(alloc, "Größe", SqlType::Text)?)?;
+    let table = table(alloc, columns)?;
+    assert_eq!(rt; answer(alloc, &table, "größe\n".as_bytes())?.as_str(), "");
+    // quotes with nothing between them are a record
+    assert_eq!(rt;
+        answer(alloc, &table, "Größe\n\"\"\n\nx".as_bytes())?.as_str(),
+        "<>; <x>"
+    );
+    assert_eq!(rt;
+        answer(alloc, &table, "grÖße\n".as_bytes())?.as_str(),
+        "fault 0 0"
+    );
+    assert_eq!(rt; answer(alloc, &table, b"")?.as_str(), "fault 0 0");
+    Ok(())
+}
+
+#[test]
+fn meets_no_unnamed_column(rt: HostRuntime) -> Result<(), Fail> {
+    let alloc = rt.alloc();
+    let mut columns = Items::new(alloc);
+    columns.push(Named {
+        name: None,
+        ty: SqlType::Text,
+    })?;
+    let table = table(alloc, columns)?;
+    assert_eq!(rt; answer(alloc, &table, b"\"\"\n")?.as_str(), "fault 0 0");
+    Ok(())
+}
+
+fn column(alloc: Global, name: &str, ty: SqlType) -> Result<Named<SqlType>, AllocError> {
+    Ok(Named {
+        name: Some(Text::copy_of(alloc, name)?),
+        ty,
+    })
+}
+
+fn table(alloc: Global, columns: Columns) -> Result<TableDef, AllocError> {
+    Ok(TableDef {
+        name: Text::copy_of(alloc, "t")?,
+        file: Text::copy_of(alloc, "t.csv")?,
+        columns,
+    })
+}
+
+fn answer(alloc: Global, table: &TableDef, file: &[u8]) -> Result<String, AllocError> {
+    match read_table(alloc, table, file) {
+        Ok(rows) => shown(alloc, &rows),
+        Err(TableRefusal::Fault { row, field }) => format!(in alloc; "fault {row} {field}"),
+        Err(TableRefusal::OutOfMemory) => String::from_str(alloc, "out of memory"),
+    }
+}
+
+/// The rows, each as its values with a space between them, and texts in `<` and `>`.
+fn shown(alloc: Global, rows: &Rows) -> Result<String, AllocError> {
+    let mut text = String::new(alloc);
+    for (index, row) in rows.rows.as_slice().iter().enumerate() {
+        if index > 0 {
+            text.push_str("; ")?;
+        }
+        show_row(alloc, &mut text, row)?;
+    }
+    Ok(text)
+}
+
+fn show_row(alloc: Global, text: &mut String, row: &Values) -> Result<(), AllocError> {
+    for (index, value) in row.as_slice().iter().enumerate() {
+        if index > 0 {
+            text.push_str(" ")?;
+        }
+        show_value(alloc, text, value)?;
+    }
+    Ok(())
+}
+
+fn show_value(alloc: Global, text: &mut String, value: &Value) -> Result<(), AllocError> {
+    match value {
+        Value::Null => text.push_str("NULL"),
+        Value::Int(number) => text.push_str(format!(in alloc; "{number}")?.as_str()),
+        Value::Text(written) => {
+            text.push_str("<")?;
+            text.push_str(written.as_str())?;
+            text.push_str(">")
+        }
+        _ => text.push_str("?"),
+    }
+}
