@@ -61,5 +61,5 @@ table_of columns [] = Err (0, 0)
 table_of columns (header ∷ records) = under_header (header_fault columns header) (rows_from columns 1 records)
 
 -- the rows of a table file, or the record and the field of its first fault
-abbrev pub TableOf : List (Named SqlType) → List ℕ → Read
+unfoldable pub TableOf : List (Named SqlType) → List ℕ → Read
 TableOf columns bytes = table_of columns (records_of bytes)

@@ -1,5 +1,5 @@
 //! A table file as a whole.
-ghost use Rattle.std.specs.Prelude.{◌≡◌, ◌+◌, length, [], Ok, IfOk, IfErr};
+ghost use Rattle.std.specs.Prelude.{◌≡◌, ℕ, ◌+◌, length, [], Ok, IfOk, IfErr};
 ghost use Rattle.csv_tables.specs.Reads.{IsFaultOf};
 ghost use Rattle.csv_tables.specs.Records.{IsReading, records_left};
 ghost use Rattle.csv_tables.specs.Tables.{TableOf, rows_from};
@@ -17,10 +17,11 @@ use std::alloc::Global;
 ///
 /// A fault is the first one: a cell that isn't the name of its column, or that writes no value of the column's type, or
 /// the first place of a record that is missing or too many. A file with no record is at fault at record 0, field 0.
+#[tactic(auto, unfolding(crate::specs::Tables::TableOf))]
 pub fn read_table(alloc: Global, table: &TableDef, bytes: &[u8]) -> Result<Rows, TableRefusal>
     ensures columns { IfOk result (λ rows. rows.columns ≡ table.now.columns) }
-    ensures ok { IfOk result (λ rows. TableOf table.now.columns bytes.now ≡ Ok rows.rows) }
-    ensures fault { IfErr result (IsFaultOf (TableOf table.now.columns bytes.now)) }
+    ensures rows { IfOk result (λ rows. TableOf table.now.columns bytes.now ≡ Ok rows.rows) }
+    ensures fault { (row field : ℕ) → result ≡ Err (TableRefusal.Fault row field) → TableOf table.now.columns bytes.now ≡ Err (row, field) }
 {
     let columns = table.columns.as_slice();
     let mut reader = open_records(alloc, bytes);

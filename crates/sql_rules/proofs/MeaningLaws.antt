@@ -23,7 +23,7 @@ use Rattle.sql_ast.specs.declared.expr.Expr.TheOpen as ast
 use Rattle.sql_ast.specs.declared.expr.Expr.TheShapes.{former-Select-items}
 use Rattle.sql_catalog.specs.declared.entries.Entries.{Entries}
 use Rattle.sql_rules.specs.Tables.{Tables}
-use Rattle.sql_rules.specs.Meaning.{Row, Frame, Env, within, kept, Meanings, meanings, expr_means, primary_means, term_means, from_means, joined_means, query_means, select_means, item_means, row_means, MeansExpr, MeansPrimary, MeansTerm, MeansFrom, MeansJoined, MeansQuery, MeansSelect}
+use Rattle.sql_rules.specs.Meaning.{Row, Frame, Env, within, kept, Meanings, meanings, meant, expr_means, primary_means, term_means, from_means, joined_means, query_means, select_means, item_means, row_means, MeansExpr, MeansPrimary, MeansTerm, MeansFrom, MeansJoined, MeansQuery, MeansSelect}
 
 module _ (catalog : Entries) (tables : Tables) where
   abbrev ME : Type 1
@@ -92,10 +92,7 @@ module _ (catalog : Entries) (tables : Tables) where
 
   -- ---- one equation a sort
 
-  abbrev pub meant : Meanings Expr Primary Term FromItem Joined Query Select
-  meant = meanings catalog tables (MeansExpr catalog tables) (MeansPrimary catalog tables) (MeansTerm catalog tables) (MeansFrom catalog tables) (MeansJoined catalog tables) (MeansQuery catalog tables) (MeansSelect catalog tables)
-
-  pub meant-expr : (e : Expr) → MeansExpr catalog tables e ≡ expr_means catalog tables meant (out-Expr e)
+  pub meant-expr : (e : Expr) → MeansExpr catalog tables e ≡ expr_means catalog tables (meant catalog tables) (out-Expr e)
   unfolding MeansExpr MeansPrimary MeansTerm MeansFrom MeansJoined MeansQuery MeansSelect
   meant-expr e =
       ap (MeansExpr catalog tables) (sym (roll-out-Expr e))
@@ -103,7 +100,7 @@ module _ (catalog : Entries) (tables : Tables) where
           (λ E P T F J Q S v1 v2 v3 v4 v5 v6 v7 k1 k2 k3 k4 k5 k6 k7 x. natural-expr v1 v2 v3 v4 v5 v6 v7 k1 k2 k3 k4 k5 k6 k7 x)
           (out-Expr e)
 
-  pub meant-primary : (e : Primary) → MeansPrimary catalog tables e ≡ primary_means catalog tables meant (out-Primary e)
+  pub meant-primary : (e : Primary) → MeansPrimary catalog tables e ≡ primary_means catalog tables (meant catalog tables) (out-Primary e)
   unfolding MeansExpr MeansPrimary MeansTerm MeansFrom MeansJoined MeansQuery MeansSelect
   meant-primary e =
       ap (MeansPrimary catalog tables) (sym (roll-out-Primary e))
@@ -111,7 +108,7 @@ module _ (catalog : Entries) (tables : Tables) where
           (λ E P T F J Q S v1 v2 v3 v4 v5 v6 v7 k1 k2 k3 k4 k5 k6 k7 x. natural-primary v1 v2 v3 v4 v5 v6 v7 k1 k2 k3 k4 k5 k6 k7 x)
           (out-Primary e)
 
-  pub meant-term : (e : Term) → MeansTerm catalog tables e ≡ term_means catalog tables meant (out-Term e)
+  pub meant-term : (e : Term) → MeansTerm catalog tables e ≡ term_means catalog tables (meant catalog tables) (out-Term e)
   unfolding MeansExpr MeansPrimary MeansTerm MeansFrom MeansJoined MeansQuery MeansSelect
   meant-term e =
       ap (MeansTerm catalog tables) (sym (roll-out-Term e))
@@ -119,7 +116,7 @@ module _ (catalog : Entries) (tables : Tables) where
           (λ E P T F J Q S v1 v2 v3 v4 v5 v6 v7 k1 k2 k3 k4 k5 k6 k7 x. natural-term v1 v2 v3 v4 v5 v6 v7 k1 k2 k3 k4 k5 k6 k7 x)
           (out-Term e)
 
-  pub meant-from : (e : FromItem) → MeansFrom catalog tables e ≡ from_means catalog tables meant (out-FromItem e)
+  pub meant-from : (e : FromItem) → MeansFrom catalog tables e ≡ from_means catalog tables (meant catalog tables) (out-FromItem e)
   unfolding MeansExpr MeansPrimary MeansTerm MeansFrom MeansJoined MeansQuery MeansSelect
   meant-from e =
       ap (MeansFrom catalog tables) (sym (roll-out-FromItem e))
@@ -127,7 +124,7 @@ module _ (catalog : Entries) (tables : Tables) where
           (λ E P T F J Q S v1 v2 v3 v4 v5 v6 v7 k1 k2 k3 k4 k5 k6 k7 x. natural-from v1 v2 v3 v4 v5 v6 v7 k1 k2 k3 k4 k5 k6 k7 x.first x.rest x.place)
           (out-FromItem e)
 
-  pub meant-query : (e : Query) → MeansQuery catalog tables e ≡ query_means catalog tables meant (out-Query e)
+  pub meant-query : (e : Query) → MeansQuery catalog tables e ≡ query_means catalog tables (meant catalog tables) (out-Query e)
   unfolding MeansExpr MeansPrimary MeansTerm MeansFrom MeansJoined MeansQuery MeansSelect
   meant-query e =
       ap (MeansQuery catalog tables) (sym (roll-out-Query e))
@@ -135,7 +132,7 @@ module _ (catalog : Entries) (tables : Tables) where
           (λ E P T F J Q S v1 v2 v3 v4 v5 v6 v7 k1 k2 k3 k4 k5 k6 k7 x. natural-query v1 v2 v3 v4 v5 v6 v7 k1 k2 k3 k4 k5 k6 k7 x.ctes x.body.first x.body.rest x.body.place x.order x.limit x.place)
           (out-Query e)
 
-  pub meant-select : (e : Select) → MeansSelect catalog tables e ≡ select_means catalog tables meant (out-Select e)
+  pub meant-select : (e : Select) → MeansSelect catalog tables e ≡ select_means catalog tables (meant catalog tables) (out-Select e)
   unfolding MeansExpr MeansPrimary MeansTerm MeansFrom MeansJoined MeansQuery MeansSelect
   meant-select e =
       ap (MeansSelect catalog tables) (sym (roll-out-Select e))

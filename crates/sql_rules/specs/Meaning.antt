@@ -233,6 +233,10 @@ module _ (catalog : Entries) (tables : Tables) where
       (λ E P T F J Q S _ _ _ _ _ _ _ e p t f j q s. joined_means (meanings e p t f j q s)) (λ E P T F J Q S _ _ _ _ _ _ _ e p t f j q s. query_means (meanings e p t f j q s))
       (λ E P T F J Q S _ _ _ _ _ _ _ e p t f j q s. select_means (meanings e p t f j q s))
 
+  -- each part means what its own word says
+  abbrev pub meant : Meanings Expr Primary Term FromItem Joined Query Select
+  meant = meanings MeansExpr MeansPrimary MeansTerm MeansFrom MeansJoined MeansQuery MeansSelect
+
 -- The environment semantics: what a query permits in the empty environment.
 abbrev pub Permits : Entries → Tables → Query → Meaning (List Row)
 Permits catalog tables query = MeansQuery catalog tables query empty_env

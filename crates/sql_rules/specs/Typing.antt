@@ -1,5 +1,5 @@
 -- The type of a text, or the first rule that it breaks and the place.
-use Rattle.std.specs.Prelude.{ℕ, pos, Bool, true, false, nat_lt, if◌then◌else◌, ◌==◌, List, [], ◌∷◌, ◌++◌, map, Option, None, Some, Result, Ok, Err}
+use Rattle.std.specs.Prelude.{ℕ, pos, Bool, true, false, nat_lt, ◌&&◌, if◌then◌else◌, ◌==◌, List, [], ◌∷◌, ◌++◌, map, Option, None, Some, Result, Ok, Err}
 use Rattle.sql_types.specs.declared.sql_type.Named.{Named}
 use Rattle.sql_types.specs.declared.sql_type.SqlType.{SqlType, out-SqlType}
 use Rattle.sql_types.specs.declared.sql_type.SqlType.TheVariants as ty
@@ -142,6 +142,26 @@ abbrev pub item_column : Option (List ℕ) → Option SqlType → Checked (Named
 item_column name (Some type) = Ok (record { name = name; ty = type })
 item_column name None = unbuilt
 
+-- ---- the forms that are built: WHERE compares a name with a literal, and a select item is a name
+
+abbrev pub is_name : {E P T F J Q S : Type 0} → Expr-F E P T F J Q S → Bool
+is_name (ast.Name name place) = true
+is_name _ = false
+
+abbrev pub is_literal : {E P T F J Q S : Type 0} → Expr-F E P T F J Q S → Bool
+is_literal (ast.Integer n place) = true
+is_literal (ast.Text text place) = true
+is_literal _ = false
+
+abbrev pub compares_name : {P T F J Q S : Type 0} → Expr-F Expr P T F J Q S → Bool
+compares_name (ast.Compare left operator operator_place right place) = is_name (out-Expr left) && is_literal (out-Expr right)
+compares_name _ = false
+
+-- what has a form that is built
+abbrev pub if_built : {A : Type 0} → Bool → Checked A → Checked A
+if_built true checked = checked
+if_built false checked = unbuilt
+
 -- ---- the layers, one case per construct, over what the parts are typed as
 
 pub record Typings (E P T F J Q S : Type 0) : Type 0 where
@@ -186,7 +206,8 @@ module _ (catalog : Entries) where
     joined_layer j sight = unbuilt
 
     abbrev pub item_layer : Item E → Sight → Checked (Named SqlType)
-    item_layer (item.Expr e None place) sight = parts.expr e sight >>= (λ a. item_column (implied_name (out-Expr (parts.tree e))) a.ty)
+    item_layer (item.Expr e None place) sight =
+        if_built (is_name (out-Expr (parts.tree e))) (parts.expr e sight >>= (λ a. item_column (implied_name (out-Expr (parts.tree e))) a.ty))
     item_layer _ sight = unbuilt
 
     -- items from left to right
@@ -195,7 +216,8 @@ module _ (catalog : Entries) where
     items_layer (i ∷ is) sight = item_layer i sight >>= (λ c. items_layer is sight >>= (λ cs. Ok (c ∷ cs)))
 
     abbrev pub filter_layer : E → Sight → Checked (Unit {0})
-    filter_layer test sight = parts.expr test sight >>= condition (place_of (out-Expr (parts.tree test)))
+    filter_layer test sight =
+        if_built (compares_name (out-Expr (parts.tree test))) (parts.expr test sight >>= condition (place_of (out-Expr (parts.tree test))))
 
     -- FROM, then WHERE, then the select list
     abbrev pub select_of : F → E → List (Item E) → Sight → Checked (List (Named SqlType))
@@ -262,6 +284,10 @@ module _ (catalog : Entries) where
 
   unfoldable pub TypeSelect : Select → Sight → Checked (List (Named SqlType))
   TypeSelect = para-Select AE AF AQ AF AF AQ AQ (expr_layer given) (primary_layer given) (term_layer given) (from_layer given) (joined_layer given) (query_layer given) (select_layer given)
+
+  -- each part is typed by its own word
+  abbrev pub typed : Typings Expr Primary Term FromItem Joined Query Select
+  typed = record { tree = λ e. e; expr = TypeExpr; primary = TypePrimary; term = TypeTerm; from = TypeFrom; joined = TypeJoined; query = TypeQuery; select = TypeSelect }
 
 -- a text is typed with nothing in sight
 abbrev pub nothing_in_sight : Sight

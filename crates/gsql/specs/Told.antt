@@ -1,0 +1,16 @@
+-- The report of an answer.
+use Rattle.std.specs.Prelude.{◌≡◌, ℕ, List, [], Result, Ok, Err}
+use Rattle.sql_types.specs.declared.rows.Rows.{Rows}
+use Rattle.sql_ast.specs.Rows.{RowsText}
+use Rattle.gsql.specs.declared.stop.Stop.{Stop}
+use Rattle.gsql.specs.declared.stop.Stop.TheVariants as stop
+use Rattle.gsql.specs.declared.status.Status.{Status}
+use Rattle.gsql.specs.declared.status.Status.TheVariants as status
+use Rattle.gsql.specs.Report.{refused_line, read_fault_line}
+
+-- the status and the texts that tell what the stages answered
+abbrev pub Tells : Result Rows Stop → Status → List ℕ → List ℕ → Type 0
+Tells (Ok answer) ending out err = (ending ≡ status.Done []) × (out ≡ RowsText answer.columns answer.rows) × (err ≡ [])
+Tells (Err stop.OtherForm) ending out err = (ending ≡ status.Refused 2 0) × (out ≡ []) × (err ≡ refused_line)
+Tells (Err (stop.ReadFault file)) ending out err = (ending ≡ status.ReadFault file) × (out ≡ []) × (err ≡ read_fault_line file)
+Tells (Err stop.OutOfMemory) ending out err = (ending ≡ status.OutOfMemory) × (out ≡ []) × (err ≡ [])

@@ -1,0 +1,152 @@
+//! The stages of a run: the catalog, the query, and the table with its evaluation.
+ghost use Rattle.std.specs.Prelude.{◌≡◌, ◌≤◌, ℕ, List, Some, Option};
+ghost use Rattle.small_run.specs.Plans.{Plans};
+ghost use Rattle.gsql.specs.Stages as stage;
+ghost use Rattle.gsql.specs.Counted.{Counted};
+ghost use Rattle.gsql.specs.Parts.{IsPart};
+
+use crate::stop::Stop;
+use csv_tables::{TableRefusal, read_table};
+use gsql_io::{Bytes, Inputs, ReadRefusal, read_file};
+use small_catalog::{CatalogRefusal, read_catalog};
+use small_query::read_query;
+use small_run::{NoPlan, Plan, plan, run};
+use sql_ast::{Query, Refusal};
+use sql_catalog::TableDef;
+use sql_types::Rows;
+use std::alloc::Global;
+
+/// The greatest size of a catalog, in bytes.
+pub const CATALOG_BYTES: u64 = 16_777_216;
+/// The greatest size of a query, in bytes.
+pub const QUERY_BYTES: u64 = 1_048_576;
+/// The greatest size of a table file, in bytes.
+pub const TABLE_BYTES: u64 = 67_108_864;
+
+// Reads a whole file within its limit.
+fn read_part<I: Inputs>(
+    alloc: Global,
+    inputs: &mut I,
+    name: &str,
+    limit: u64,
+    file: u64,
+) -> Result<Bytes, Stop>
+    ensures part { IsPart (I.content inputs.old name.now) limit file name.now (I.begun inputs.new) result }
+    ensures counted { Counted (I.faults inputs.old) (I.faults inputs.new) (I.broken inputs.new) result }
+    ensures content { I.content inputs.new ≡ I.content inputs.old }
+{
+    let name = String::from_str(alloc, name)?;
+    match read_file(alloc, inputs, name, limit) {
+        Ok(bytes) => Ok(bytes),
+        Err(ReadRefusal::Failed) => Err(Stop::ReadFault(file)),
+        Err(ReadRefusal::TooLong) => Err(Stop::OtherForm),
+        Err(ReadRefusal::OutOfMemory) => Err(Stop::OutOfMemory),
+    }
+}
+
+// Evaluates the query over the rows of a table file.
+fn table_said(
+    alloc: Global,
+    table: &TableDef,
+    query: &Query,
+    plan: &Plan,
+    bytes: &[u8],
+) -> Result<Rows, Stop>
+    requires { Plans table.now query.now plan.now }
+    ensures { stage.TableSaid table.now query.now bytes.now result }
+{
+    let _query = query;
+    match read_table(alloc, table, bytes) {
+        Ok(rows) => Ok(run(alloc, plan, &rows)?),
+        Err(TableRefusal::Fault { .. }) => Err(Stop::OtherForm),
+        Err(TableRefusal::OutOfMemory) => Err(Stop::OutOfMemory),
+    }
+}
+
+fn table_stage<I: Inputs>(
+    alloc: Global,
+    inputs: &mut I,
+    table: &TableDef,
+    query: &Query,
+    plan: &Plan,
+) -> Result<Rows, Stop>
+    requires { Plans table.now query.now plan.now }
+    ensures stage { stage.TableStage table.now query.now (I.content inputs.old) (I.begun inputs.new) result }
+    ensures counted { Counted (I.faults inputs.old) (I.faults inputs.new) (I.broken inputs.new) result }
+{
+    match read_part(alloc, inputs, table.file.as_str(), TABLE_BYTES, 2) {
+        Ok(bytes) => table_said(alloc, table, query, plan, bytes.as_slice()),
+        Err(stop) => Err(stop),
+    }
+}
+
+// Reads a query of the form that is taken and goes on to its table.
+fn query_said<I: Inputs>(
+    alloc: Global,
+    inputs: &mut I,
+    table: &TableDef,
+    bytes: &[u8],
+) -> Result<Rows, Stop>
+    ensures said { stage.QuerySaid table.now (I.content inputs.old) (I.begun inputs.new) bytes.now result }
+    ensures counted { Counted (I.faults inputs.old) (I.faults inputs.new) (I.broken inputs.new) result }
+{
+    small_query::laws::once();
+    match read_query(alloc, bytes) {
+        Ok(query) => match plan(alloc, table, &query) {
+            Ok(plan) => table_stage(alloc, inputs, table, &query, &plan),
+            Err(NoPlan::OtherForm) => Err(Stop::OtherForm),
+            Err(NoPlan::OutOfMemory) => Err(Stop::OutOfMemory),
+        },
+        Err(Refusal::Rule { .. }) => Err(Stop::OtherForm),
+        Err(Refusal::OutOfMemory) => Err(Stop::OutOfMemory),
+    }
+}
+
+fn query_stage<I: Inputs>(
+    alloc: Global,
+    inputs: &mut I,
+    table: &TableDef,
+    name: &str,
+) -> Result<Rows, Stop>
+    ensures stage { stage.QueryStage table.now name.now (I.content inputs.old) (I.begun inputs.new) result }
+    ensures counted { Counted (I.faults inputs.old) (I.faults inputs.new) (I.broken inputs.new) result }
+{
+    match read_part(alloc, inputs, name, QUERY_BYTES, 1) {
+        Ok(bytes) => query_said(alloc, inputs, table, bytes.as_slice()),
+        Err(stop) => Err(stop),
+    }
+}
+
+// Reads a catalog of the form that is taken and goes on to the query.
+fn catalog_said<I: Inputs>(
+    alloc: Global,
+    inputs: &mut I,
+    query: &str,
+    bytes: &[u8],
+) -> Result<Rows, Stop>
+    ensures said { stage.CatalogSaid query.now (I.content inputs.old) (I.begun inputs.new) bytes.now result }
+    ensures counted { Counted (I.faults inputs.old) (I.faults inputs.new) (I.broken inputs.new) result }
+{
+    match read_catalog(alloc, bytes) {
+        Ok(table) => query_stage(alloc, inputs, &table, query),
+        Err(CatalogRefusal::OtherForm) => Err(Stop::OtherForm),
+        Err(CatalogRefusal::OutOfMemory) => Err(Stop::OutOfMemory),
+    }
+}
+
+/// Reads a catalog, a query and its table, in this order, and evaluates the query. The first of them that is refused or
+/// can't be read decides.
+pub fn catalog_stage<I: Inputs>(
+    alloc: Global,
+    inputs: &mut I,
+    catalog: &str,
+    query: &str,
+) -> Result<Rows, Stop>
+    ensures stage { stage.CatalogStage catalog.now query.now (I.content inputs.old) (I.begun inputs.new) result }
+    ensures counted { Counted (I.faults inputs.old) (I.faults inputs.new) (I.broken inputs.new) result }
+{
+    match read_part(alloc, inputs, catalog, CATALOG_BYTES, 0) {
+        Ok(bytes) => catalog_said(alloc, inputs, query, bytes.as_slice()),
+        Err(stop) => Err(stop),
+    }
+}

@@ -1,0 +1,20 @@
+//! A query of the first form, `SELECT names FROM table WHERE name = literal`: its plan over one table, and its rows.
+#![tactic(auto)]
+
+mod columns;
+mod conditions;
+mod equality;
+mod from;
+mod literals;
+mod parts;
+mod picks;
+mod selects;
+mod views;
+
+pub mod form;
+pub mod planner;
+pub mod runner;
+
+pub use form::{NoPlan, Plan};
+pub use planner::plan;
+pub use runner::run;
