@@ -1,0 +1,4 @@
+//! The tokens of a text, and how deep its brackets nest.
+#![tactic(auto)]
+
+pub mod machine;
