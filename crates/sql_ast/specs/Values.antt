@@ -59,14 +59,14 @@ abbrev pub number_of : ℕ → List ℕ → ℕ
 number_of base digits = fold (λ n d. n * base + digit_value d) 0 digits
 
 -- at most 18446744073709551615
-abbrev pub integer_of : ℕ → List ℕ → Option Lexeme
-integer_of base digits = if are_digits base digits && nat_lt (number_of base digits) (2 ^ 64) then Some (lexeme.Integer (number_of base digits)) else None
+abbrev pub number : ℕ → List ℕ → Option ℕ
+number base digits = if are_digits base digits && nat_lt (number_of base digits) (2 ^ 64) then Some (number_of base digits) else None
 
 -- digits, or `0x` or `0X` and hexadecimal digits
-unfoldable pub integer : List ℕ → Option Lexeme
+unfoldable pub integer : List ℕ → Option ℕ
 integer bytes =
-    if slice_index bytes 0 == byte "0" && (slice_index bytes 1 == byte "x" || slice_index bytes 1 == byte "X") then integer_of 16 (drop 2 bytes)
-    else integer_of 10 bytes
+    if slice_index bytes 0 == byte "0" && (slice_index bytes 1 == byte "x" || slice_index bytes 1 == byte "X") then number 16 (drop 2 bytes)
+    else number 10 bytes
 
 -- ---- escapes
 
@@ -85,21 +85,29 @@ is_code_point n = nat_lt n 0xD800 || is_between 0xE000 0x10_FFFF n
 
 -- a number is a byte in BYTES, and a code point in a STRING or a name
 abbrev pub coded : Content → ℕ → Option (List ℕ)
-coded content.Bytes n = Some (n ∷ [])
+coded content.Bytes n = if nat_le n 255 then Some (n ∷ []) else None
 coded content.Text n = if is_code_point n then Some (encode_utf8 n) else None
 
--- so many digits of this base, behind so many other bytes, that stand for a number up to this one
-abbrev pub numbered : Content → ℕ → ℕ → ℕ → ℕ → List ℕ → Option Escape
-numbered kind skipped base count most bytes =
-    let digits = take count (drop skipped bytes) in
-    if length digits == count && are_digits base digits && nat_le (number_of base digits) most
-    then option_map (λ b. record { bytes = b; size = skipped + count }) (coded kind (number_of base digits))
-    else None
+-- an escape of this size that stands for a number
+abbrev pub numbered : Content → ℕ → ℕ → Option Escape
+numbered kind size n = option_map (λ b. record { bytes = b; size = size }) (coded kind n)
 
--- `\u` and `\U` are no escapes in BYTES
+-- the number that so many digits of this base stand for, with which the bytes begin
+abbrev pub number_at_start : ℕ → ℕ → List ℕ → Option ℕ
+number_at_start base count bytes = if nat_le count (length bytes) then number base (take count bytes) else None
+
+-- three octal digits up to 377
+abbrev pub octal : Content → List ℕ → Option Escape
+octal kind bytes = option_and_then (λ n. if nat_le n 255 then numbered kind 3 n else None) (number_at_start 8 3 bytes)
+
+-- behind `x` or `X` two hexadecimal digits
+abbrev pub hexadecimal : Content → List ℕ → Option Escape
+hexadecimal kind more = option_and_then (numbered kind 3) (number_at_start 16 2 more)
+
+-- behind `u` four hexadecimal digits, behind `U` eight; these are no escapes in BYTES
 abbrev pub code_point : Content → ℕ → List ℕ → Option Escape
-code_point content.Bytes count bytes = None
-code_point content.Text count bytes = numbered content.Text 1 16 count 0x10_FFFF bytes
+code_point content.Bytes count more = None
+code_point content.Text count more = option_and_then (numbered content.Text (count + 1)) (number_at_start 16 count more)
 
 -- the escape with which the bytes behind a backslash begin
 unfoldable pub escape : Content → List ℕ → Option Escape
@@ -115,14 +123,12 @@ escape kind (b ∷ more) =
     if b == byte "r" then one 13 else
     -- a backslash, `?`, both quotes and a backquote stand for themselves
     if b == 92 || b == byte "?" || b == 34 || b == byte "'" || b == byte "`" then one b else
-    -- `\x` or `\X` and two hexadecimal digits
-    if b == byte "x" || b == byte "X" then numbered kind 1 16 2 255 (b ∷ more) else
-    -- `\u` and four, `\U` and eight
-    if b == byte "u" then code_point kind 4 (b ∷ more) else
-    if b == byte "U" then code_point kind 8 (b ∷ more) else
-    -- three octal digits up to 377
-    numbered kind 0 8 3 255 (b ∷ more)
+    if b == byte "x" || b == byte "X" then hexadecimal kind more else
+    if b == byte "u" then code_point kind 4 more else
+    if b == byte "U" then code_point kind 8 more else
+    octal kind (b ∷ more)
 
+-- bytes in front of others, if there are others
 abbrev pub after : List ℕ → Option (List ℕ) → Option (List ℕ)
 after front rest = option_map (λ more. front ++ more) rest
 
@@ -186,7 +192,7 @@ unfoldable pub meaning : Bool → Shape → List ℕ → Option Piece
 meaning dot s.Gap bytes = Some piece.Gap
 meaning dot s.Word bytes = option_map piece.Token (word dot bytes)
 meaning dot s.QuotedName bytes = option_map piece.Token (option_and_then quoted_name (unescape content.Text (inside 1 1 bytes)))
-meaning dot s.Integer bytes = option_map piece.Token (integer bytes)
+meaning dot s.Integer bytes = option_map piece.Token (option_map lexeme.Integer (integer bytes))
 meaning dot (s.Literal p n) bytes = option_map piece.Token (literal p n bytes)
 meaning dot s.Parameter bytes = option_map piece.Token (parameter (drop 1 bytes))
 meaning dot s.QuotedParameter bytes = option_map piece.Token (option_and_then parameter (unescape content.Text (inside 2 1 bytes)))
