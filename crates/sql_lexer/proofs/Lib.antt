@@ -5,3 +5,8 @@ pub mod Enclosed
 pub mod Thrice
 pub mod Signs
 pub mod States
+pub mod Numbers
+pub mod Unescape
+pub mod Utf8
+pub mod Utf8Values
+pub mod Marks

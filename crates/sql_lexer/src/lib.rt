@@ -1,4 +1,6 @@
 //! The tokens of a text, and how deep its brackets nest.
 #![tactic(auto)]
 
+pub mod escape;
 pub mod machine;
+pub mod number;
