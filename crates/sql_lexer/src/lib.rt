@@ -2,5 +2,7 @@
 #![tactic(auto)]
 
 pub mod escape;
+pub mod literal;
 pub mod machine;
 pub mod number;
+pub mod piece;
