@@ -10,3 +10,4 @@ pub mod Unescape
 pub mod Utf8
 pub mod Utf8Values
 pub mod Marks
+pub mod Pieces

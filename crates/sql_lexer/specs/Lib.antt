@@ -1,3 +1,4 @@
 pub mod Machine
 pub mod Escapes
 pub mod Marked
+pub mod Lexed

@@ -2,7 +2,12 @@
 #![tactic(auto)]
 
 pub mod escape;
+pub mod lexer;
 pub mod literal;
 pub mod machine;
 pub mod number;
 pub mod piece;
+pub mod tokens;
+
+pub use lexer::lex;
+pub use tokens::{LexFault, Tokens};
