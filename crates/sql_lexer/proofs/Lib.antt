@@ -11,3 +11,6 @@ pub mod Utf8
 pub mod Utf8Values
 pub mod Marks
 pub mod Pieces
+pub mod Counting
+pub mod Once
+pub mod Apart

@@ -1,6 +1,6 @@
 -- The loop over the pieces of a text.
 use Rattle.std.proofs.Common.{◌≡◌, ℕ, zero, suc, ◌+◌, ◌-◌, ◌<◌, ◌≤◌, Bool, false, List, [], ◌∷◌, ◌++◌, length, take, drop, map, Option, Some, None, refl, sym, ◌∙◌, ap, subst, append_assoc, append-nil, length-drop, arith}
-use Rattle.std.proofs.lemmas.List.{drop_all, drop-drop, length-map}
+use Rattle.std.proofs.lemmas.List.{drop_all, drop-drop, length-map, take-map}
 use Rattle.std.specs.Prelude.{IfSome}
 use Rattle.fronts.specs.Fronts.{Front}
 use Rattle.fronts.specs.Machines.{walk, ahead}
@@ -56,14 +56,9 @@ pub moved : (text : List ℕ) (at stop : ℕ) (o : Option Shape) → Stood text 
 moved text at stop None s = tt
 moved text at stop (Some shape) s = let le = s.from in further at stop le (λ e. some_read (map class (drop at text)) shape (stop - at) (omega arith) s.front.spells)
 
-take-map : (n : ℕ) (u : List ℕ) → take n (map class u) ≡ map class (take n u)
-take-map zero u = refl
-take-map (suc n) [] = refl
-take-map (suc n) (b ∷ u) = ap (λ v. class b ∷ v) (take-map n u)
-
 -- the bytes of a piece have its shape
 pub shaped : (text : List ℕ) (at stop : ℕ) (shape : Shape) → Stood text at stop (Some shape) → Form shape (map class (take (stop - at) (drop at text)))
-shaped text at stop shape s = subst (Form shape) (take-map (stop - at) (drop at text)) s.front.spells
+shaped text at stop shape s = subst (Form shape) (take-map class (stop - at) (drop at text)) s.front.spells
 
 -- ---- all pieces
 
