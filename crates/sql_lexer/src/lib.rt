@@ -14,3 +14,6 @@ pub mod tokens;
 pub use lexer::lex;
 pub use nesting::nest;
 pub use tokens::{LexFault, Tokens};
+
+#[cfg(test)]
+mod tests;
