@@ -10,16 +10,13 @@ mod stop;
 #[cfg(test)]
 mod tests;
 
-
-
 use gsql_io::{HostFiles, HostOut};
 use run::run_gsql;
 use status::{Status, UsageKind};
 use std::alloc::Global;
-use std::env;
-use std::io;
 use std::process::ExitCode;
 use std::rt::Env;
+use std::{env, io};
 
 // The words behind the program's name.
 fn words(rt: &(impl Env + Alloc<A = Global>)) -> io::Result<Vec<String>> {

@@ -74,7 +74,7 @@ unfolding range_of
 hidden t name same = λ place. (
   (6, place),
   ap (name_type place (scope_of t ∷ [])) (found_is t name _ _ (ap (λ (b : Bool). if b then (0 + length (column_entries t.columns)) ∷ [] else []) same) refl)
-  ∙ ap (found_type place) (entry_past t.columns (range_of t)),
+      ∙ ap (found_type place) (entry_past t.columns (range_of t)),
 )
 
 -- ---- a column

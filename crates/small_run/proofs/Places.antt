@@ -52,7 +52,7 @@ module _ (name : List ℕ) (cs : List (Named SqlType)) (i : ℕ) (c : Named SqlT
       (ap (named name) (sym (take-append-drop (i + 1) cs))
       ∙ named-append name (take (i + 1) cs) (drop (i + 1) cs)
       ∙ ap (λ (ps : List ℕ). ps ++ places_from (length (take (i + 1) cs)) (λ e. not (is_range e.what) && is_named e.name name) (column_entries (drop (i + 1) cs)))
-          (named_more ∙ ap (λ (b : Bool). named name (take i cs) ++ (if b then i ∷ [] else [])) has ∙ ap (λ (ps : List ℕ). ps ++ i ∷ []) before)))
+      (named_more ∙ ap (λ (b : Bool). named name (take i cs) ++ (if b then i ∷ [] else [])) has ∙ ap (λ (ps : List ℕ). ps ++ i ∷ []) before)))
 
 only_found : (found : Option ℕ) → only (option_to_list found) ≡ found
 only_found None = refl

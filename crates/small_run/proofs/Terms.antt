@@ -213,7 +213,7 @@ module _ (t : TableDef) (left right : Expr) (name : List ℕ) (name_place slot :
   equation_is =
       condition_is t e left right comparison.Equal operator_place place is
       ∙ ap (λ (b : Bool). if_built b (expr_layer (one t) (typed (one t)) (ast.Compare left comparison.Equal operator_place right place) (sight_of t) >>= condition place))
-          (one_of_each (is_name (out-Expr left)) (is_literal (out-Expr right)) (ap is_name named) lit.is)
+      (one_of_each (is_name (out-Expr left)) (is_literal (out-Expr right)) (ap is_name named) lit.is)
       ∙ ap (λ (a : Checked Arg). (a >>= (λ a. TypeExpr (one t) right (sight_of t) >>= (λ b. equal_type operator_place a b))) >>= condition place) (name_types t left name name_place named slot c column at)
       ∙ ap (λ (b : Checked Arg). (b >>= (λ b. equal_type operator_place (let a : Arg = record { ty = Some c.ty; kind = kind.Other } in a) b)) >>= condition place) (lit.checked (one t) (sight_of t))
 

@@ -40,8 +40,8 @@ pub one_more : (xs ys : List Value) (i : ℕ) (x y : Value) (truth now : Option 
 one_more xs ys i x y truth now p q at_x at_y is whole =
     whole
     ∙ ap (λ (r : Option Bool). both_true truth r)
-        (ap (λ (zs : List Value). equal_fields (map equal zs) (drop i ys)) (drop_more xs i x p ∙ ap (λ (z : Value). z ∷ drop (i + 1) xs) (sym at_x))
-        ∙ ap (equal_fields (map equal (x ∷ drop (i + 1) xs))) (drop_more ys i y q ∙ ap (λ (z : Value). z ∷ drop (i + 1) ys) (sym at_y)))
+    (ap (λ (zs : List Value). equal_fields (map equal zs) (drop i ys)) (drop_more xs i x p ∙ ap (λ (z : Value). z ∷ drop (i + 1) xs) (sym at_x))
+    ∙ ap (equal_fields (map equal (x ∷ drop (i + 1) xs))) (drop_more ys i y q ∙ ap (λ (z : Value). z ∷ drop (i + 1) ys) (sym at_y)))
     ∙ both_assoc truth (equal x y) (from_place (i + 1) xs ys)
     ∙ ap (λ (t : Option Bool). both_true t (from_place (i + 1) xs ys)) (sym is)
 

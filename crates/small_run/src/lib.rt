@@ -4,16 +4,15 @@
 mod columns;
 mod conditions;
 mod equality;
+pub mod form;
 mod from;
 mod literals;
 mod parts;
 mod picks;
-mod selects;
-mod views;
-
-pub mod form;
 pub mod planner;
 pub mod runner;
+mod selects;
+mod views;
 
 pub use form::{NoPlan, Plan};
 pub use planner::plan;

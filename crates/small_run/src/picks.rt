@@ -36,7 +36,11 @@ fn pick(alloc: Global, table: &TableDef, item: &Item<Expr>) -> Result<Picked, No
 }
 
 /// The columns and the places of the select list.
-pub fn select_list(alloc: Global, table: &TableDef, items: &[Item<Expr>]) -> Result<Selected, NoPlan>
+pub fn select_list(
+    alloc: Global,
+    table: &TableDef,
+    items: &[Item<Expr>],
+) -> Result<Selected, NoPlan>
     ensures { Made (Selects table.now items.now)
         (Refused (items_layer (one table.now) (typed (one table.now)) items.now (sight_of table.now))) result }
 {

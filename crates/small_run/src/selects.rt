@@ -23,7 +23,13 @@ pub fn select_plan(alloc: Global, table: &TableDef, select: &Select) -> Result<P
     let Some(filter) = &select.filter else {
         return Err(NoPlan::OtherForm);
     };
-    parts_plan(alloc, table, from.get(), filter.get(), select.items.as_slice())
+    parts_plan(
+        alloc,
+        table,
+        from.get(),
+        filter.get(),
+        select.items.as_slice(),
+    )
 }
 
 /// The plan of FROM, WHERE and a select list.

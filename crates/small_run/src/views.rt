@@ -77,5 +77,8 @@ pub fn is_plain_select(select: &Select) -> bool
 pub fn is_plain_query(query: &Query) -> bool
     ensures { result ≡ one_term (out-Query query.now) }
 {
-    query.ctes.is_empty() && query.body.rest.is_empty() && query.order.is_empty() && query.limit.is_none()
+    query.ctes.is_empty()
+        && query.body.rest.is_empty()
+        && query.order.is_empty()
+        && query.limit.is_none()
 }

@@ -1,4 +1,13 @@
 pub mod Words
+pub mod Classes
+pub mod Forms
+pub mod Values
+pub mod Tokens
+pub mod Nest
+pub mod Marks
+pub mod Trees
+pub mod Parts
+pub mod Grammar
 pub mod Spelling
 pub mod Literals
 pub mod Rows

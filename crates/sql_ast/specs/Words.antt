@@ -1,9 +1,10 @@
 -- The words of the grammar, and when two names are the same.
-use Rattle.std.specs.Prelude.{◌≡◌, ℕ, Bool, true, false, if◌then◌else◌, List, [], ◌∷◌, map, Option, Some, None}
+use Rattle.std.specs.Prelude.{ℕ, Bool, if◌then◌else◌, List, [], ◌∷◌, map, Option, Some, None}
 use Rattle.std.specs.Str.{str_eq_ignore_ascii_case}
 use Rattle.sql_ast.specs.declared.words.Reserved.{Reserved}
 use Rattle.sql_ast.specs.declared.words.Word.{Word}
-use Rattle.sql_ast.specs.declared.words.TheConstants.{RESERVED, WORDS}
+use Rattle.sql_ast.specs.declared.words.Sign.{Sign}
+use Rattle.sql_ast.specs.declared.words.TheConstants.{RESERVED, WORDS, SIGNS}
 
 -- two names are the same where they are equal after ASCII letters are made lower case
 abbrev pub same_name : List ℕ → List ℕ → Bool
@@ -21,3 +22,7 @@ reserved_of = find_word (map (λ e. (e.0.now, e.1)) RESERVED)
 -- the word of the grammar that these letters spell, if it isn't reserved
 unfoldable pub word_of : List ℕ → Option Word
 word_of = find_word (map (λ e. (e.0.now, e.1)) WORDS)
+
+-- the operator or mark that these bytes are
+unfoldable pub sign_of : List ℕ → Option Sign
+sign_of = find_word (map (λ e. (e.0.now, e.1)) SIGNS)

@@ -46,7 +46,10 @@ pub struct Sort<E> {
 #[derive(Drop)]
 pub enum Item<E> {
     /// `* [edit]`
-    Star { edit: Edit<E>, place: u64 },
+    Star {
+        edit: Edit<E>,
+        place: u64,
+    },
     /// `postfix.* [edit]`
     QualifiedStar {
         qualifier: E,
@@ -140,7 +143,9 @@ pub struct Call<E> {
 /// An argument of a call.
 #[derive(Drop)]
 pub enum Arg<E> {
-    Expr { expr: E },
+    Expr {
+        expr: E,
+    },
     /// `name -> expr` or `(name, name) -> expr`
     Lambda {
         variables: Items<Name>,
@@ -148,7 +153,11 @@ pub enum Arg<E> {
         place: u64,
     },
     /// `INTERVAL expr name`
-    Interval { amount: E, part: Name, place: u64 },
+    Interval {
+        amount: E,
+        part: Name,
+        place: u64,
+    },
 }
 
 /// PIVOT or UNPIVOT after an item of FROM, and the alias behind it.

@@ -82,8 +82,14 @@ pub enum IndexForm {
 /// A part of a postfix: a field, or a subscript with the place of its `[`.
 #[derive(Drop)]
 pub enum Part<E> {
-    Field { name: Name },
-    Index { form: IndexForm, index: E, place: u64 },
+    Field {
+        name: Name,
+    },
+    Index {
+        form: IndexForm,
+        index: E,
+        place: u64,
+    },
 }
 
 /// An expression.

@@ -5,13 +5,24 @@ use sql_types::Items;
 #[derive(Drop)]
 pub enum Groups<E> {
     /// `expr {"," expr}`
-    Keys { keys: Items<E>, place: u64 },
+    Keys {
+        keys: Items<E>,
+        place: u64,
+    },
     /// `()`
-    Empty { place: u64 },
+    Empty {
+        place: u64,
+    },
     /// `GROUPING SETS (..)`
-    Sets { sets: Items<GroupSet<E>>, place: u64 },
+    Sets {
+        sets: Items<GroupSet<E>>,
+        place: u64,
+    },
     /// `ROLLUP (..)` or `CUBE (..)`
-    Cube { cube: Cube<E>, place: u64 },
+    Cube {
+        cube: Cube<E>,
+        place: u64,
+    },
 }
 
 /// One of the grouping sets: an item, or a ROLLUP or CUBE that stands for several sets.

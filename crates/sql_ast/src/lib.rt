@@ -6,22 +6,26 @@ pub mod clauses;
 pub mod expr;
 pub mod grouping;
 pub mod naming;
+pub mod pieces;
 pub mod query;
-pub mod spelling;
 pub mod refusal;
-
+pub mod spelling;
 pub mod token;
 pub mod type_spelling;
 pub mod words;
 
 pub use answer_text::rows_text;
 pub use clauses::{
-    Aliased, Arg, Binding, Call, Edit, Function, Item, LimitPart, FilterPart, Name, Names, NullsPart, NullsPlace,
-    On, PivotCall, Replacement, Sort, Turn, Turned, UnpivotColumn, When, WithOffset,
+    Aliased, Arg, Binding, Call, Edit, FilterPart, Function, Item, LimitPart, Name, Names,
+    NullsPart, NullsPlace, On, PivotCall, Replacement, Sort, Turn, Turned, UnpivotColumn, When,
+    WithOffset,
 };
-pub use expr::{Comparison, Expr, IndexForm, IsTest, Link, Operator, Part, Prefix, Quantifier, Signed};
+pub use expr::{
+    Comparison, Expr, IndexForm, IsTest, Link, Operator, Part, Prefix, Quantifier, Signed,
+};
 pub use grouping::{Cube, CubeKind, GroupItem, GroupSet, Groups};
-pub use naming::{grammar_word, reserved_word, same_name};
+pub use naming::{grammar_word, reserved_word, same_name, sign_of};
+pub use pieces::{Class, Content, LiteralPrefix, Mark, Piece, Quote, Quotes, Shape};
 pub use query::{Body, Cte, FromItem, JoinWord, Joined, Primary, Query, Select, SetTerm, Term};
 pub use refusal::Refusal;
 pub use token::{Lexeme, Token};

@@ -2,7 +2,7 @@
 ghost use Rattle.std.specs.Prelude.{◌≡◌, map};
 ghost use Rattle.sql_ast.specs.Words as words;
 
-use crate::words::{RESERVED, Reserved, WORDS, Word};
+use crate::words::{RESERVED, Reserved, SIGNS, Sign, WORDS, Word};
 use sql_types::Text;
 
 /// Whether two names are the same: equal after ASCII letters are made lower case.
@@ -52,6 +52,26 @@ fn find_grammar_word(mut table: &[(&[u8], Word)], letters: &[u8]) -> Option<Word
 {
     'entries: while let [entry, rest @ ..] = table {
         if same_letters(entry.0, letters) {
+            return Some(entry.1);
+        }
+        table = rest;
+    }
+    None
+}
+
+/// The operator or mark that these bytes are.
+#[tactic(auto, unfolding(crate::specs::Words::sign_of))]
+pub fn sign_of(bytes: &[u8]) -> Option<Sign>
+    ensures { result ≡ words.sign_of bytes.now }
+{
+    find_sign(&SIGNS, bytes)
+}
+
+fn find_sign(mut table: &[(&[u8], Sign)], bytes: &[u8]) -> Option<Sign>
+    ensures { result ≡ words.find_word (map (λ e. (e.0.now, e.1)) table.entry.now) bytes.now }
+{
+    'entries: while let [entry, rest @ ..] = table {
+        if same_letters(entry.0, bytes) {
             return Some(entry.1);
         }
         table = rest;

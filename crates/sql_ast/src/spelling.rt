@@ -13,7 +13,11 @@ fn hex_digit(number: u8) -> u8
     requires { number < 16 }
     ensures { result ≡ spell.hex_digit number }
 {
-    if number < 10 { b'0' + number } else { b'a' - 10 + number }
+    if number < 10 {
+        b'0' + number
+    } else {
+        b'a' - 10 + number
+    }
 }
 
 /// Writes a byte that stands between two marks.
@@ -28,7 +32,12 @@ fn write_escaped(out: &mut Vec<u8>, mark: u8, byte: u8) -> Result<(), AllocError
         b'\n' => out.extend_from_slice(b"\\n"),
         b'\r' => out.extend_from_slice(b"\\r"),
         b'\t' => out.extend_from_slice(b"\\t"),
-        0..=31 | 127 => out.extend_from_slice(&[b'\\', b'x', hex_digit(byte / 16), hex_digit(byte % 16)]),
+        0..=31 | 127 => out.extend_from_slice(&[
+            b'\\',
+            b'x',
+            hex_digit(byte / 16),
+            hex_digit(byte % 16),
+        ]),
         _ => out.extend_from_slice(&[byte]),
     }
 }

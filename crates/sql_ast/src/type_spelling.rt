@@ -5,9 +5,17 @@ use sql_types::{Boxed, Items};
 /// A type as it is spelled. Typing says whether it names a type.
 #[derive(Drop)]
 pub enum TypeSpelling {
-    Name { name: Name },
-    Array { element: Boxed<TypeSpelling>, place: u64 },
-    Struct { fields: Items<TypeField<TypeSpelling>>, place: u64 },
+    Name {
+        name: Name,
+    },
+    Array {
+        element: Boxed<TypeSpelling>,
+        place: u64,
+    },
+    Struct {
+        fields: Items<TypeField<TypeSpelling>>,
+        place: u64,
+    },
 }
 
 /// A field of a written STRUCT type, which may be unnamed.

@@ -290,3 +290,31 @@ pub const WORDS: [(&[u8], Word); 14] = [
     (b"SETS", Word::Sets),
     (b"UNPIVOT", Word::Unpivot),
 ];
+
+/// Each operator and mark as it is written.
+pub const SIGNS: [(&[u8], Sign); 24] = [
+    (b"(", Sign::OpenRound),
+    (b")", Sign::CloseRound),
+    (b"[", Sign::OpenSquare),
+    (b"]", Sign::CloseSquare),
+    (b",", Sign::Comma),
+    (b".", Sign::Dot),
+    (b";", Sign::Semicolon),
+    (b"+", Sign::Plus),
+    (b"-", Sign::Minus),
+    (b"*", Sign::Star),
+    (b"~", Sign::Tilde),
+    (b"&", Sign::Ampersand),
+    (b"^", Sign::Caret),
+    (b"|", Sign::Bar),
+    (b"||", Sign::BarBar),
+    (b"=", Sign::Equal),
+    (b"!=", Sign::BangEqual),
+    (b"<>", Sign::LessGreater),
+    (b"<", Sign::Less),
+    (b"<=", Sign::LessEqual),
+    (b"<<", Sign::LessLess),
+    (b">", Sign::Greater),
+    (b">=", Sign::GreaterEqual),
+    (b"->", Sign::Arrow),
+];

@@ -4,5 +4,6 @@
 pub mod entries;
 
 pub use entries::{
-    Argument, Arguments, Definition, Entries, FunctionDef, Measures, ParamDef, TableDef, ViewDef, Written,
+    Argument, Arguments, Definition, Entries, FunctionDef, Measures, ParamDef, TableDef, ViewDef,
+    Written,
 };

@@ -28,8 +28,10 @@ use Rattle.sql_rules.specs.Meaning.{Row, Frame, Env, within, kept, Meanings, mea
 module _ (catalog : Entries) (tables : Tables) where
   abbrev ME : Type 1
   ME = Env → Meaning Value
+
   abbrev MF : Type 1
   MF = Env → Meaning (List Frame)
+
   abbrev MQ : Type 1
   MQ = Env → Meaning (List Row)
 
@@ -97,45 +99,45 @@ module _ (catalog : Entries) (tables : Tables) where
   meant-expr e =
       ap (MeansExpr catalog tables) (sym (roll-out-Expr e))
       ∙ rec-roll-Expr ME MF MQ MF MF MQ MQ (λ E P T F J Q S _ _ _ _ _ _ _ e p t f j q s. expr_means catalog tables (meanings catalog tables e p t f j q s)) (λ E P T F J Q S _ _ _ _ _ _ _ e p t f j q s. primary_means catalog tables (meanings catalog tables e p t f j q s)) (λ E P T F J Q S _ _ _ _ _ _ _ e p t f j q s. term_means catalog tables (meanings catalog tables e p t f j q s)) (λ E P T F J Q S _ _ _ _ _ _ _ e p t f j q s. from_means catalog tables (meanings catalog tables e p t f j q s)) (λ E P T F J Q S _ _ _ _ _ _ _ e p t f j q s. joined_means catalog tables (meanings catalog tables e p t f j q s)) (λ E P T F J Q S _ _ _ _ _ _ _ e p t f j q s. query_means catalog tables (meanings catalog tables e p t f j q s)) (λ E P T F J Q S _ _ _ _ _ _ _ e p t f j q s. select_means catalog tables (meanings catalog tables e p t f j q s))
-          (λ E P T F J Q S v1 v2 v3 v4 v5 v6 v7 k1 k2 k3 k4 k5 k6 k7 x. natural-expr v1 v2 v3 v4 v5 v6 v7 k1 k2 k3 k4 k5 k6 k7 x)
-          (out-Expr e)
+      (λ E P T F J Q S v1 v2 v3 v4 v5 v6 v7 k1 k2 k3 k4 k5 k6 k7 x. natural-expr v1 v2 v3 v4 v5 v6 v7 k1 k2 k3 k4 k5 k6 k7 x)
+      (out-Expr e)
 
   pub meant-primary : (e : Primary) → MeansPrimary catalog tables e ≡ primary_means catalog tables (meant catalog tables) (out-Primary e)
   unfolding MeansExpr MeansPrimary MeansTerm MeansFrom MeansJoined MeansQuery MeansSelect
   meant-primary e =
       ap (MeansPrimary catalog tables) (sym (roll-out-Primary e))
       ∙ rec-roll-Primary ME MF MQ MF MF MQ MQ (λ E P T F J Q S _ _ _ _ _ _ _ e p t f j q s. expr_means catalog tables (meanings catalog tables e p t f j q s)) (λ E P T F J Q S _ _ _ _ _ _ _ e p t f j q s. primary_means catalog tables (meanings catalog tables e p t f j q s)) (λ E P T F J Q S _ _ _ _ _ _ _ e p t f j q s. term_means catalog tables (meanings catalog tables e p t f j q s)) (λ E P T F J Q S _ _ _ _ _ _ _ e p t f j q s. from_means catalog tables (meanings catalog tables e p t f j q s)) (λ E P T F J Q S _ _ _ _ _ _ _ e p t f j q s. joined_means catalog tables (meanings catalog tables e p t f j q s)) (λ E P T F J Q S _ _ _ _ _ _ _ e p t f j q s. query_means catalog tables (meanings catalog tables e p t f j q s)) (λ E P T F J Q S _ _ _ _ _ _ _ e p t f j q s. select_means catalog tables (meanings catalog tables e p t f j q s))
-          (λ E P T F J Q S v1 v2 v3 v4 v5 v6 v7 k1 k2 k3 k4 k5 k6 k7 x. natural-primary v1 v2 v3 v4 v5 v6 v7 k1 k2 k3 k4 k5 k6 k7 x)
-          (out-Primary e)
+      (λ E P T F J Q S v1 v2 v3 v4 v5 v6 v7 k1 k2 k3 k4 k5 k6 k7 x. natural-primary v1 v2 v3 v4 v5 v6 v7 k1 k2 k3 k4 k5 k6 k7 x)
+      (out-Primary e)
 
   pub meant-term : (e : Term) → MeansTerm catalog tables e ≡ term_means catalog tables (meant catalog tables) (out-Term e)
   unfolding MeansExpr MeansPrimary MeansTerm MeansFrom MeansJoined MeansQuery MeansSelect
   meant-term e =
       ap (MeansTerm catalog tables) (sym (roll-out-Term e))
       ∙ rec-roll-Term ME MF MQ MF MF MQ MQ (λ E P T F J Q S _ _ _ _ _ _ _ e p t f j q s. expr_means catalog tables (meanings catalog tables e p t f j q s)) (λ E P T F J Q S _ _ _ _ _ _ _ e p t f j q s. primary_means catalog tables (meanings catalog tables e p t f j q s)) (λ E P T F J Q S _ _ _ _ _ _ _ e p t f j q s. term_means catalog tables (meanings catalog tables e p t f j q s)) (λ E P T F J Q S _ _ _ _ _ _ _ e p t f j q s. from_means catalog tables (meanings catalog tables e p t f j q s)) (λ E P T F J Q S _ _ _ _ _ _ _ e p t f j q s. joined_means catalog tables (meanings catalog tables e p t f j q s)) (λ E P T F J Q S _ _ _ _ _ _ _ e p t f j q s. query_means catalog tables (meanings catalog tables e p t f j q s)) (λ E P T F J Q S _ _ _ _ _ _ _ e p t f j q s. select_means catalog tables (meanings catalog tables e p t f j q s))
-          (λ E P T F J Q S v1 v2 v3 v4 v5 v6 v7 k1 k2 k3 k4 k5 k6 k7 x. natural-term v1 v2 v3 v4 v5 v6 v7 k1 k2 k3 k4 k5 k6 k7 x)
-          (out-Term e)
+      (λ E P T F J Q S v1 v2 v3 v4 v5 v6 v7 k1 k2 k3 k4 k5 k6 k7 x. natural-term v1 v2 v3 v4 v5 v6 v7 k1 k2 k3 k4 k5 k6 k7 x)
+      (out-Term e)
 
   pub meant-from : (e : FromItem) → MeansFrom catalog tables e ≡ from_means catalog tables (meant catalog tables) (out-FromItem e)
   unfolding MeansExpr MeansPrimary MeansTerm MeansFrom MeansJoined MeansQuery MeansSelect
   meant-from e =
       ap (MeansFrom catalog tables) (sym (roll-out-FromItem e))
       ∙ rec-roll-FromItem ME MF MQ MF MF MQ MQ (λ E P T F J Q S _ _ _ _ _ _ _ e p t f j q s. expr_means catalog tables (meanings catalog tables e p t f j q s)) (λ E P T F J Q S _ _ _ _ _ _ _ e p t f j q s. primary_means catalog tables (meanings catalog tables e p t f j q s)) (λ E P T F J Q S _ _ _ _ _ _ _ e p t f j q s. term_means catalog tables (meanings catalog tables e p t f j q s)) (λ E P T F J Q S _ _ _ _ _ _ _ e p t f j q s. from_means catalog tables (meanings catalog tables e p t f j q s)) (λ E P T F J Q S _ _ _ _ _ _ _ e p t f j q s. joined_means catalog tables (meanings catalog tables e p t f j q s)) (λ E P T F J Q S _ _ _ _ _ _ _ e p t f j q s. query_means catalog tables (meanings catalog tables e p t f j q s)) (λ E P T F J Q S _ _ _ _ _ _ _ e p t f j q s. select_means catalog tables (meanings catalog tables e p t f j q s))
-          (λ E P T F J Q S v1 v2 v3 v4 v5 v6 v7 k1 k2 k3 k4 k5 k6 k7 x. natural-from v1 v2 v3 v4 v5 v6 v7 k1 k2 k3 k4 k5 k6 k7 x.first x.rest x.place)
-          (out-FromItem e)
+      (λ E P T F J Q S v1 v2 v3 v4 v5 v6 v7 k1 k2 k3 k4 k5 k6 k7 x. natural-from v1 v2 v3 v4 v5 v6 v7 k1 k2 k3 k4 k5 k6 k7 x.first x.rest x.place)
+      (out-FromItem e)
 
   pub meant-query : (e : Query) → MeansQuery catalog tables e ≡ query_means catalog tables (meant catalog tables) (out-Query e)
   unfolding MeansExpr MeansPrimary MeansTerm MeansFrom MeansJoined MeansQuery MeansSelect
   meant-query e =
       ap (MeansQuery catalog tables) (sym (roll-out-Query e))
       ∙ rec-roll-Query ME MF MQ MF MF MQ MQ (λ E P T F J Q S _ _ _ _ _ _ _ e p t f j q s. expr_means catalog tables (meanings catalog tables e p t f j q s)) (λ E P T F J Q S _ _ _ _ _ _ _ e p t f j q s. primary_means catalog tables (meanings catalog tables e p t f j q s)) (λ E P T F J Q S _ _ _ _ _ _ _ e p t f j q s. term_means catalog tables (meanings catalog tables e p t f j q s)) (λ E P T F J Q S _ _ _ _ _ _ _ e p t f j q s. from_means catalog tables (meanings catalog tables e p t f j q s)) (λ E P T F J Q S _ _ _ _ _ _ _ e p t f j q s. joined_means catalog tables (meanings catalog tables e p t f j q s)) (λ E P T F J Q S _ _ _ _ _ _ _ e p t f j q s. query_means catalog tables (meanings catalog tables e p t f j q s)) (λ E P T F J Q S _ _ _ _ _ _ _ e p t f j q s. select_means catalog tables (meanings catalog tables e p t f j q s))
-          (λ E P T F J Q S v1 v2 v3 v4 v5 v6 v7 k1 k2 k3 k4 k5 k6 k7 x. natural-query v1 v2 v3 v4 v5 v6 v7 k1 k2 k3 k4 k5 k6 k7 x.ctes x.body.first x.body.rest x.body.place x.order x.limit x.place)
-          (out-Query e)
+      (λ E P T F J Q S v1 v2 v3 v4 v5 v6 v7 k1 k2 k3 k4 k5 k6 k7 x. natural-query v1 v2 v3 v4 v5 v6 v7 k1 k2 k3 k4 k5 k6 k7 x.ctes x.body.first x.body.rest x.body.place x.order x.limit x.place)
+      (out-Query e)
 
   pub meant-select : (e : Select) → MeansSelect catalog tables e ≡ select_means catalog tables (meant catalog tables) (out-Select e)
   unfolding MeansExpr MeansPrimary MeansTerm MeansFrom MeansJoined MeansQuery MeansSelect
   meant-select e =
       ap (MeansSelect catalog tables) (sym (roll-out-Select e))
       ∙ rec-roll-Select ME MF MQ MF MF MQ MQ (λ E P T F J Q S _ _ _ _ _ _ _ e p t f j q s. expr_means catalog tables (meanings catalog tables e p t f j q s)) (λ E P T F J Q S _ _ _ _ _ _ _ e p t f j q s. primary_means catalog tables (meanings catalog tables e p t f j q s)) (λ E P T F J Q S _ _ _ _ _ _ _ e p t f j q s. term_means catalog tables (meanings catalog tables e p t f j q s)) (λ E P T F J Q S _ _ _ _ _ _ _ e p t f j q s. from_means catalog tables (meanings catalog tables e p t f j q s)) (λ E P T F J Q S _ _ _ _ _ _ _ e p t f j q s. joined_means catalog tables (meanings catalog tables e p t f j q s)) (λ E P T F J Q S _ _ _ _ _ _ _ e p t f j q s. query_means catalog tables (meanings catalog tables e p t f j q s)) (λ E P T F J Q S _ _ _ _ _ _ _ e p t f j q s. select_means catalog tables (meanings catalog tables e p t f j q s))
-          (λ E P T F J Q S v1 v2 v3 v4 v5 v6 v7 k1 k2 k3 k4 k5 k6 k7 x. fun_ext (natural-select v1 v2 v3 v4 v5 v6 v7 k1 k2 k3 k4 k5 k6 k7 x.distinct x.as_struct x.items x.from x.filter x.grouping x.having x.place))
-          (out-Select e)
+      (λ E P T F J Q S v1 v2 v3 v4 v5 v6 v7 k1 k2 k3 k4 k5 k6 k7 x. fun_ext (natural-select v1 v2 v3 v4 v5 v6 v7 k1 k2 k3 k4 k5 k6 k7 x.distinct x.as_struct x.items x.from x.filter x.grouping x.having x.place))
+      (out-Select e)

@@ -29,8 +29,10 @@ use Rattle.sql_rules.specs.Typing.{Checked, ◌>>=◌, Sight, Typings, given, ex
 module _ (catalog : Entries) where
   abbrev AE : Type 0
   AE = Sight → Checked Arg
+
   abbrev AF : Type 0
   AF = Sight → Checked (List Entry)
+
   abbrev AQ : Type 0
   AQ = Sight → Checked (List (Named SqlType))
 

@@ -176,8 +176,10 @@ module _ (catalog : Entries) (tables : Tables) where
 
   abbrev ME : Type 1
   ME = Env → Meaning Value
+
   abbrev MF : Type 1
   MF = Env → Meaning (List Frame)
+
   abbrev MQ : Type 1
   MQ = Env → Meaning (List Row)
 

@@ -50,7 +50,10 @@ pub fn copy_type(alloc: Global, ty: &SqlType) -> Result<SqlType, AllocError>
         SqlType::Text => Ok(SqlType::Text),
         SqlType::Bytes => Ok(SqlType::Bytes),
         SqlType::Date => Ok(SqlType::Date),
-        SqlType::Array(element) => Ok(SqlType::Array(Boxed::new(alloc, copy_type(alloc, element.get())?)?)),
+        SqlType::Array(element) => Ok(SqlType::Array(Boxed::new(
+            alloc,
+            copy_type(alloc, element.get())?,
+        )?)),
         SqlType::Struct(fields) => Ok(SqlType::Struct(copy_columns(alloc, fields)?)),
     }
 }

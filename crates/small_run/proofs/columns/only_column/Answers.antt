@@ -15,7 +15,7 @@ returns c = all_found c.args.name.now c.args.columns.now c.loop-place.place c.lo
 pub loop-place-preserved : goal.loop-place-preserved
 loop-place-preserved c =
     elim c.if-is_named.branch [
-      then-is_named+else-is_some w ↦ first_found c.args.name.now c.args.columns.now c.loop-place.place c.index-columns-place.result c.loop-place-test.true c.index-columns-place.is c.loop-place.found
+      | then-is_named+else-is_some w ↦ first_found c.args.name.now c.args.columns.now c.loop-place.place c.index-columns-place.result c.loop-place-test.true c.index-columns-place.is c.loop-place.found
           (sym c.is_named.ensures ∙ w.if-is_named.true) (sym w.is_some.ensures ∙ w.if-is_some.false) c.loop-place.invariant ∙ ap option_to_list (sym w.found-is)
       | else-is_named w ↦ passed_by c.args.name.now c.args.columns.now c.loop-place.place c.index-columns-place.result c.loop-place-test.true c.index-columns-place.is c.loop-place.found
           (sym c.is_named.ensures ∙ w.if-is_named.false) c.loop-place.invariant ∙ ap option_to_list (sym w.found-is)

@@ -13,5 +13,5 @@ pub loop-column-preserved : goal.loop-column-preserved
 loop-column-preserved c =
     wrote_more columns_in_pieces c.args.columns.now c.loop-column.column-index c.column-item.result (omega arith) c.column-item.is c.args.out.now.items c.loop-column.out.items c.write_column.new.out.items
     (c.in_ok-write_column.ensures ∙ ap (λ (r : List ℕ). r ++ column_text c.column-item.result.name c.column-item.result.ty) c.in_ok-extend_from_slice.ensures.items
-        ∙ append_assoc c.loop-column.out.items (codes ", ") (column_text c.column-item.result.name c.column-item.result.ty))
+    ∙ append_assoc c.loop-column.out.items (codes ", ") (column_text c.column-item.result.name c.column-item.result.ty))
     c.loop-column.invariant

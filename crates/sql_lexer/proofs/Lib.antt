@@ -1,0 +1,16 @@
+pub mod Scan
+pub mod Left
+pub mod Starts
+pub mod Enclosed
+pub mod Thrice
+pub mod Signs
+pub mod States
+pub mod Numbers
+pub mod Unescape
+pub mod Utf8
+pub mod Utf8Values
+pub mod Marks
+pub mod Pieces
+pub mod Counting
+pub mod Once
+pub mod Apart

@@ -1,0 +1,5 @@
+pub mod Machine
+pub mod Escapes
+pub mod Marked
+pub mod Lexed
+pub mod Spans
