@@ -1,5 +1,5 @@
 -- One line more is written.
-use Rattle.std.proofs.Common.{◌≡◌, ◌++◌, List, ℕ, refl, ap, ◌∙◌, arith}
+use Rattle.std.proofs.Common.{◌++◌, List, refl, ap, ◌∙◌, arith}
 use Rattle.sql_types.specs.declared.value.Value.{Value}
 use Rattle.sql_ast.specs.Rows.{row_text, rows_lines}
 use Rattle.sql_ast.proofs.Written.{InPieces, wrote_more}

@@ -1,5 +1,5 @@
 -- What stands there so far is written.
-use Rattle.std.proofs.Common.{◌≡◌, ◌++◌, take, map}
+use Rattle.std.proofs.Common.{◌≡◌, ◌++◌, take}
 use Rattle.sql_ast.specs.Rows as text
 use Rattle.sql_ast.proofs.answer_text.write_lines.Given as goal
 

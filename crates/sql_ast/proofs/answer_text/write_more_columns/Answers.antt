@@ -1,5 +1,5 @@
 -- One column more is written, behind a comma.
-use Rattle.std.proofs.Common.{◌≡◌, ◌++◌, List, ℕ, map, refl, ap, ◌∙◌, append_assoc, codes, arith}
+use Rattle.std.proofs.Common.{◌++◌, List, ℕ, map, refl, ap, ◌∙◌, append_assoc, codes, arith}
 use Rattle.sql_types.specs.declared.sql_type.Named.{Named}
 use Rattle.sql_types.specs.declared.sql_type.SqlType.{SqlType}
 use Rattle.sql_ast.specs.Rows.{continued, column_text}

@@ -1,5 +1,5 @@
 -- One value more is written, behind a comma.
-use Rattle.std.proofs.Common.{◌≡◌, ◌++◌, List, ℕ, map, refl, ap, ◌∙◌, append_assoc, codes, arith}
+use Rattle.std.proofs.Common.{◌++◌, List, ℕ, map, refl, ap, ◌∙◌, append_assoc, codes, arith}
 use Rattle.sql_types.specs.declared.value.Value.{Value}
 use Rattle.sql_ast.specs.Rows.{continued}
 use Rattle.sql_ast.specs.Literals.{literal_text}
