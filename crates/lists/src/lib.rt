@@ -2,6 +2,8 @@
 #![tactic(auto)]
 
 pub mod list_type;
+#[cfg(test)]
+mod tests;
 pub mod text;
 
 pub use list_type::ListType;

@@ -10,6 +10,8 @@ pub mod pieces;
 pub mod query;
 pub mod refusal;
 pub mod spelling;
+#[cfg(test)]
+mod tests;
 pub mod token;
 pub mod type_spelling;
 pub mod words;

@@ -6,6 +6,8 @@ pub mod fault;
 pub mod kinds;
 pub mod rows;
 pub mod sql_type;
+#[cfg(test)]
+mod tests;
 pub mod value;
 
 pub use copies::{copy_columns, copy_name, copy_type, copy_value, copy_values};
