@@ -25,7 +25,7 @@ fn deliver<O: Sink, E: Sink>(printed: Printed, out: &mut O, err: &mut E) -> Resu
             Ok(()) => Ok(status),
             Err(Failed) => Err(Failed),
         },
-        Err(Failed) => Err(Failed),
+        Err(failed) => Err(failed),
     }
 }
 

@@ -1,5 +1,5 @@
 -- A list is one of its own orders.
-use Rattle.std.proofs.Common.{◌≡◌, ℕ, ◌<◌, List, [], ◌∷◌, length}
+use Rattle.std.proofs.Common.{List, [], ◌∷◌}
 use Rattle.sql_types.specs.declared.value.Value.{Value}
 use Rattle.sql_types.specs.Arranged.{Permutes, permutes_none, permutes_skip, Arranged}
 

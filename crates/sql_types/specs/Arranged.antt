@@ -1,5 +1,5 @@
 -- The orders of a list of rows.
-use Rattle.std.specs.Prelude.{◌≡◌, ℕ, ◌<◌, List, [], ◌∷◌, length, slice_index_or}
+use Rattle.std.specs.Prelude.{ℕ, ◌<◌, List, [], ◌∷◌, length, slice_index_or}
 use Rattle.sql_types.specs.declared.value.Value.{Value}
 use Rattle.sql_types.specs.declared.kinds.SortItem.{SortItem}
 use Rattle.sql_types.specs.Before.{BeforeBy}

@@ -1,5 +1,5 @@
 -- When two values are the same, and when they are equal.
-use Rattle.std.specs.Prelude.{◌≡◌, ℕ, Bool, true, false, ◌==◌, ◌&&◌, int_le, List, [], ◌∷◌, Option, Some, None}
+use Rattle.std.specs.Prelude.{◌≡◌, Bool, true, false, ◌==◌, ◌&&◌, int_le, List, [], ◌∷◌, Option, Some, None}
 use Rattle.std.specs.Str.{bytes_eq}
 use Rattle.sql_types.specs.declared.value.Value.{Value, out-Value, fold-Value}
 use Rattle.sql_types.specs.declared.value.Value.TheOpen as v

@@ -1,0 +1,14 @@
+pub mod Ways
+pub mod Marks
+pub mod Words
+pub mod Solid
+pub mod Levels
+pub mod Calls
+pub mod Subqueries
+pub mod Basics
+pub mod Exprs
+pub mod Chains
+pub mod Comparisons
+pub mod Froms
+pub mod Groupings
+pub mod Selects
