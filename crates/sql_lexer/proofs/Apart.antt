@@ -1,6 +1,6 @@
 -- The spans of tokens are in order, with white space and comments alone between them.
-use Rattle.std.proofs.Common.{◌≡◌, ℕ, zero, suc, ◌+◌, ◌-◌, ◌<◌, ◌≤◌, Bool, true, false, cond, List, [], ◌∷◌, ◌++◌, length, take, drop, map, Option, Some, None, refl, sym, ◌∙◌, ap, subst, append_assoc, append-nil, length-drop, arith}
-use Rattle.std.proofs.lemmas.List.{drop_all, drop-drop, length-map, take_all, take-map}
+use Rattle.std.proofs.Common.{◌≡◌, ℕ, ◌+◌, ◌-◌, ◌≤◌, Bool, true, false, cond, List, [], ◌++◌, length, take, drop, map, Option, Some, None, refl, sym, ◌∙◌, ap, subst, append_assoc, append-nil, length-drop, arith}
+use Rattle.std.proofs.lemmas.List.{drop-drop, length-map, take_all, take-map}
 use Rattle.std.proofs.Math.Seq.{take-add}
 use Rattle.std.specs.Prelude.{option_map}
 use Rattle.std.specs.Str.{is_utf8}
@@ -59,8 +59,8 @@ module _ (text : List ℕ) where
   further : (from at n : ℕ) → from ≤ at → between from (at + n) ≡ between from at ++ take n (drop at text)
   further from at n le =
       (let e : (at + n) - from ≡ (at - from) + n = omega arith in ap (λ k. take k (drop from text)) e)
-        ∙ take-add (at - from) n (drop from text)
-        ∙ ap (λ u. between from at ++ take n u) (drop-drop (at - from) from text ∙ (let e : from + (at - from) ≡ at = omega arith in ap (λ k. drop k text) e))
+      ∙ take-add (at - from) n (drop from text)
+      ∙ ap (λ u. between from at ++ take n u) (drop-drop (at - from) from text ∙ (let e : from + (at - from) ≡ at = omega arith in ap (λ k. drop k text) e))
 
   fits : (at : ℕ) (a : Shape) (n : ℕ) → at ≤ length text → Next (drop at text) a n → at + n ≤ length text
   fits at a n le f = let w = f.within in let l = length-map (drop at text) class in let d = length-drop at text in omega arith
@@ -76,16 +76,20 @@ module _ (text : List ℕ) where
   apart from at dot rest tokens is le fit g (lexes_gap a n f e l) =
       let here : Next (drop at text) a n = subst (λ u. Next u a n) is f in
       let gap : Form s.Gap (map class (take n (drop at text))) =
-        subst (λ x. Form x (map class (take n (drop at text)))) (reads_gap dot a (take n rest) e) (subst (Form a) (take-map class n (drop at text)) here.spells) in
+      subst (λ x. Form x (map class (take n (drop at text)))) (reads_gap dot a (take n rest) e) (subst (Form a) (take-map class n (drop at text)) here.spells) in
       apart from (at + n) dot (drop n rest) tokens (ap (drop n) is ∙ drop-drop n at text) (omega arith) (fits at a n fit here)
-        (subst Gaps (sym (further from at n le)) (gaps-append (between from at) (take n (drop at text)) g (one_gap (take n (drop at text)) gap))) l
+      (subst Gaps (sym (further from at n le)) (gaps-append (between from at) (take n (drop at text)) g (one_gap (take n (drop at text)) gap))) l
   apart from at dot rest _ is le fit g (lexes_token {tokens = more} a n lexeme f e l) =
       let here : Next (drop at text) a n = subst (λ u. Next u a n) is f in
       let some = some_size a n (drop at text) here in
-      let end_fits = fits at a n fit here in
-      (le, omega arith, end_fits, g,
+      let end_fits = fits at a n fit here in (
+        le,
+        omega arith,
+        end_fits,
+        g,
         apart (at + n) (at + n) (is_dot lexeme) (drop n rest) more (ap (drop n) is ∙ drop-drop n at text) (omega arith) end_fits
-          (subst Gaps (let z : 0 ≡ (at + n) - (at + n) = omega arith in ap (λ k. take k (drop (at + n) text)) z) gaps_none) l)
+            (subst Gaps (let z : 0 ≡ (at + n) - (at + n) = omega arith in ap (λ k. take k (drop (at + n) text)) z) gaps_none) l,
+      )
 
 pub spans_apart : (text : List ℕ) (tokens : List Token) → Lexes 0 false text tokens → Apart text 0 tokens
 spans_apart text tokens l = apart text 0 0 false text tokens refl (omega arith) (omega arith) gaps_none l

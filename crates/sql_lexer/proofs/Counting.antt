@@ -1,5 +1,5 @@
 -- The loop that counts brackets.
-use Rattle.std.proofs.Common.{◌≡◌, ℕ, zero, suc, ◌+◌, ◌-◌, ◌<◌, ◌≤◌, max, List, [], ◌∷◌, length, drop, Some, refl, sym, ◌∙◌, ap, subst, arith}
+use Rattle.std.proofs.Common.{◌≡◌, ℕ, zero, suc, ◌+◌, ◌≤◌, max, List, [], ◌∷◌, drop, Some, sym, ◌∙◌, ap, arith}
 use Rattle.std.specs.Prelude.{slice_get}
 use Rattle.sql_ast.specs.declared.token.Lexeme.{Lexeme}
 use Rattle.sql_ast.specs.declared.token.Lexeme.TheVariants as lexeme
@@ -59,5 +59,5 @@ goes_on tokens at depth deepest c t e next is most m =
       few = omega arith;
       under = omega arith;
       same = c.same ∙ ap (λ u. max deepest (nest_from depth u)) rest ∙ ap (λ n. max deepest (max depth (nest_from n (drop (at + 1) tokens)))) (sym is)
-        ∙ greatest deepest most depth next (nest_from next (drop (at + 1) tokens)) c.under (at_least next (drop (at + 1) tokens)) m;
+          ∙ greatest deepest most depth next (nest_from next (drop (at + 1) tokens)) c.under (at_least next (drop (at + 1) tokens)) m;
     }

@@ -10,13 +10,11 @@ use Rattle.sql_ast.specs.declared.pieces.Mark.TheVariants as mark
 use Rattle.sql_ast.specs.declared.pieces.Class.{Class}
 use Rattle.sql_ast.specs.declared.pieces.Class.TheVariants as c
 use Rattle.sql_ast.specs.declared.pieces.LiteralPrefix.{LiteralPrefix}
-use Rattle.sql_ast.specs.declared.pieces.LiteralPrefix.TheVariants as prefix
 use Rattle.sql_ast.specs.declared.pieces.Quotes.{Quotes}
 use Rattle.sql_ast.specs.declared.pieces.Quotes.TheVariants as quotes
-use Rattle.sql_ast.specs.declared.pieces.Shape.{Shape}
 use Rattle.sql_ast.specs.declared.pieces.Shape.TheVariants as s
-use Rattle.sql_ast.specs.Classes.{is_letter, is_inner, closes, same_quote, is_backslash, is_line_break, is_star, is_slash, is_blank, is_single, is_pair, is_after_less, is_equal, is_greater, is_bar}
-use Rattle.sql_ast.specs.Forms.{Inner, inner_none, inner_more, Rest, rest_end, rest_escape, rest_more, Tripled, tripled_end, tripled_escape, tripled_more, tripled_one, tripled_two, Quoted, quoted_once, quoted_thrice, Line, line_none, line_more, Block, block_end, block_star, block_more, Form, form_word, form_integer, form_quoted_name, form_plain, form_raw, form_bytes, form_raw_bytes, form_bytes_raw, form_parameter, form_quoted_parameter, form_single, form_pair, form_blank, form_dashes, form_hash, form_block}
+use Rattle.sql_ast.specs.Classes.{closes}
+use Rattle.sql_ast.specs.Forms.{Rest, rest_end, rest_escape, rest_more, Tripled, tripled_end, tripled_escape, tripled_more, tripled_one, tripled_two, Quoted, quoted_once, quoted_thrice, Form, form_quoted_name, form_plain, form_raw, form_bytes, form_raw_bytes, form_bytes_raw, form_parameter, form_quoted_parameter}
 use Rattle.sql_ast.specs.Classes.{class}
 use Rattle.sql_ast.specs.Values.{prefix_size, quotes_size}
 use Rattle.sql_lexer.specs.Marked.{Marked}
@@ -102,7 +100,7 @@ two : (n : Quotes) (x y : Class) (u : List Class) → Enclosed (quotes_size n) (
 two n x y u e =
     let k = some_quotes n in
     subst (λ k. Enclosed k (quotes_size n) (x ∷ y ∷ u)) (let z : 1 + (1 + quotes_size n) ≡ 2 + quotes_size n = omega arith in z)
-      (further (1 + quotes_size n) (quotes_size n) x (y ∷ u) (omega arith) (further (quotes_size n) (quotes_size n) y u k e))
+    (further (1 + quotes_size n) (quotes_size n) x (y ∷ u) (omega arith) (further (quotes_size n) (quotes_size n) y u k e))
 
 literal_encloses : (p : LiteralPrefix) (n : Quotes) (u : List Class) → Form (s.Literal p n) u → Enclosed (prefix_size p + quotes_size n) (quotes_size n) u
 literal_encloses _ n u (form_plain l) = subst (λ k. Enclosed k (quotes_size n) u) (let z : quotes_size n ≡ 0 + quotes_size n = omega arith in z) (quoted_encloses n u l)

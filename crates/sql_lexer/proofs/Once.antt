@@ -1,13 +1,11 @@
 -- A text has one list of tokens, or one first fault.
-use Rattle.std.proofs.Common.{◌≡◌, ◌⊎◌, inl, inr, ℕ, zero, suc, ◌+◌, ◌-◌, ◌<◌, ◌≤◌, Bool, true, false, List, [], ◌∷◌, length, take, drop, map, Option, Some, None, refl, sym, ◌∙◌, ap, subst, length-drop, arith}
+use Rattle.std.proofs.Common.{◌≡◌, ◌⊎◌, inl, inr, ℕ, zero, suc, ◌+◌, ◌<◌, ◌≤◌, Bool, false, List, [], ◌∷◌, length, take, drop, map, Option, Some, None, refl, sym, ap, subst, length-drop, arith}
 use Rattle.std.specs.Prelude.{Result, Ok, Err}
 use Rattle.fronts.specs.Fronts.{Front, OneReading}
 use Rattle.fronts.specs.Machines.{walk}
 use Rattle.fronts.proofs.Walks.{walks, one_reading}
 use Rattle.fronts.proofs.Once.{same_front}
-use Rattle.sql_ast.specs.declared.pieces.Class.{Class}
 use Rattle.sql_ast.specs.declared.pieces.Shape.{Shape}
-use Rattle.sql_ast.specs.declared.pieces.Piece.{Piece}
 use Rattle.sql_ast.specs.declared.pieces.Piece.TheVariants as piece
 use Rattle.sql_ast.specs.declared.token.Lexeme.{Lexeme}
 use Rattle.sql_ast.specs.declared.token.Token.{Token}
@@ -96,7 +94,7 @@ faulty_once at dot text _ _ (faulty_after_token s n y f e l) (faulty_value s' m 
 faulty_once at dot text _ _ (faulty_after_token s n y f e l) (faulty_after_gap s' m g e' l') = absurd (gap_token dot text s' s m n g f y e' e)
 faulty_once at dot text j k (faulty_after_token s n y f e l) (faulty_after_token s' m z g e' l') =
     faulty_once (at + n) (is_dot y) (drop n text) j k l
-      (subst (λ v. Faulty (at + n) (is_dot v) (drop n text) k) (sym (same_lexeme dot text s s' n m f g y z e e')) (faulty_same dot text s s' n m f g at (is_dot z) k l'))
+    (subst (λ v. Faulty (at + n) (is_dot v) (drop n text) k) (sym (same_lexeme dot text s s' n m f g y z e e')) (faulty_same dot text s s' n m f g at (is_dot z) k l'))
 
 not_both : (at : ℕ) (dot : Bool) (text : List ℕ) (a : List Token) (k : ℕ) → Lexes at dot text a → Faulty at dot text k → ⊥
 not_both at dot _ _ _ lexes_end (faulty_shape m h g) = absurd (omega arith)
@@ -112,7 +110,7 @@ not_both at dot text _ _ (lexes_token s n y f e l) (faulty_value s' m g e') = to
 not_both at dot text _ _ (lexes_token s n y f e l) (faulty_after_gap s' m g e' l') = gap_token dot text s' s m n g f y e' e
 not_both at dot text _ k (lexes_token {tokens = a} s n y f e l) (faulty_after_token s' m z g e' l') =
     not_both (at + n) (is_dot y) (drop n text) a k l
-      (subst (λ v. Faulty (at + n) (is_dot v) (drop n text) k) (sym (same_lexeme dot text s s' n m f g y z e e')) (faulty_same dot text s s' n m f g at (is_dot z) k l'))
+    (subst (λ v. Faulty (at + n) (is_dot v) (drop n text) k) (sym (same_lexeme dot text s s' n m f g y z e e')) (faulty_same dot text s s' n m f g at (is_dot z) k l'))
 
 pub one_answer : (text : List ℕ) (left right : Result (List Token) ℕ) → TokensOf text left → TokensOf text right → left ≡ right
 one_answer text (Ok a) (Ok b) l m = ap Ok (lexes_once 0 false text a b l m)
@@ -133,13 +131,13 @@ answer_by : (at : ℕ) (dot : Bool) (text : List ℕ) → 0 < length text → (n
     → ((next : Bool) → 0 < n → Answer (at + n) next (drop n text)) → Answer at dot text
 answer_by at dot text some n None f rest = inr (at, faulty_shape n some f)
 answer_by at dot text some n (Some a) f rest = elim (read dot a (take n text)) as (λ o. read dot a (take n text) ≡ o → Answer at dot text) [
-    None ↦ λ e. inr (at, faulty_value a n f e)
+  | None ↦ λ e. inr (at, faulty_value a n f e)
   | Some piece.Gap ↦ λ e. elim (rest dot (some_size a n text f)) [ inl x ↦ inl (x.0, lexes_gap a n f e x.1) | inr x ↦ inr (x.0, faulty_after_gap a n f e x.1) ]
   | Some (piece.Token l) ↦ λ e. elim (rest (is_dot l) (some_size a n text f)) [
-      inl x ↦ inl (record { lexeme = l; start = at; «end» = at + n } ∷ x.0, lexes_token a n l f e x.1)
+    | inl x ↦ inl (record { lexeme = l; start = at; «end» = at + n } ∷ x.0, lexes_token a n l f e x.1)
     | inr x ↦ inr (x.0, faulty_after_token a n l f e x.1)
-    ]
-  ] refl
+  ]
+] refl
 
 answer : (fuel at : ℕ) (dot : Bool) (text : List ℕ) → length text ≤ fuel → Answer at dot text
 answer fuel at dot [] le = inl ([], lexes_end)
@@ -147,7 +145,7 @@ answer zero at dot (b ∷ text) le = absurd (omega arith)
 answer (suc fuel) at dot (b ∷ text) le =
     let w = walk step t.Start (map class (b ∷ text)) in
     answer_by at dot (b ∷ text) (omega arith) w.0 (whole w.1) (walks step whole Left machine t.Start (map class (b ∷ text)))
-      (λ next some. answer fuel (at + w.0) next (drop w.0 (b ∷ text)) (let l = length-drop w.0 (b ∷ text) in omega arith))
+    (λ next some. answer fuel (at + w.0) next (drop w.0 (b ∷ text)) (let l = length-drop w.0 (b ∷ text) in omega arith))
 
 pub some_answer : (text : List ℕ) → (answer : Result (List Token) ℕ) × TokensOf text answer
 some_answer text = elim (answer (length text) 0 false text (omega arith)) [ inl x ↦ (Ok x.0, x.1) | inr x ↦ (Err x.0, x.1) ]

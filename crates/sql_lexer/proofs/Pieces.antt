@@ -1,5 +1,5 @@
 -- The loop over the pieces of a text.
-use Rattle.std.proofs.Common.{◌≡◌, ℕ, zero, suc, ◌+◌, ◌-◌, ◌<◌, ◌≤◌, Bool, false, List, [], ◌∷◌, ◌++◌, length, take, drop, map, Option, Some, None, refl, sym, ◌∙◌, ap, subst, append_assoc, append-nil, length-drop, arith}
+use Rattle.std.proofs.Common.{◌≡◌, ℕ, ◌+◌, ◌-◌, ◌<◌, ◌≤◌, Bool, false, List, [], ◌∷◌, ◌++◌, length, take, drop, map, Option, Some, None, sym, ◌∙◌, ap, subst, append_assoc, append-nil, length-drop, arith}
 use Rattle.std.proofs.lemmas.List.{drop_all, drop-drop, length-map, take-map}
 use Rattle.std.specs.Prelude.{IfSome}
 use Rattle.fronts.specs.Fronts.{Front}
@@ -30,8 +30,8 @@ stood text at r e =
     subst (λ (x : ℕ × State). Stood text at x.0 (whole x.1)) (sym e) (record {
       from = let n = (walk step t.Start (map class (drop at text))).0 in omega arith;
       front = subst (λ n. Front Form (map class (drop at text)) n (whole (walk step t.Start (map class (drop at text))).1))
-        (let n = (walk step t.Start (map class (drop at text))).0 in let z : n ≡ (n + at) - at = omega arith in z)
-        (walks step whole Left machine t.Start (map class (drop at text)));
+          (let n = (walk step t.Start (map class (drop at text))).0 in let z : n ≡ (n + at) - at = omega arith in z)
+          (walks step whole Left machine t.Start (map class (drop at text)));
     })
 
 pub within : (text : List ℕ) (at stop : ℕ) (o : Option Shape) → at ≤ length text → Stood text at stop o → stop ≤ length text
@@ -99,9 +99,9 @@ module _ (text : List ℕ) (at stop : ℕ) (dot : Bool) (found : List Token) (sh
   token_here lexeme e = record {
     within = within text at stop (Some shape) r.within s;
     goes = λ more l. subst (Lexes 0 false text) (sym (append_assoc found (here lexeme ∷ []) more))
-      (r.goes (here lexeme ∷ more)
+        (r.goes (here lexeme ∷ more)
         (subst (λ n. Lexes at dot (drop at text) (record { lexeme = lexeme; start = at; «end» = n } ∷ more)) there
-          (lexes_token shape (stop - at) lexeme s.front e (lexes_rest (is_dot lexeme) more l))));
+        (lexes_token shape (stop - at) lexeme s.front e (lexes_rest (is_dot lexeme) more l))));
     fails = λ place l. r.fails place (faulty_after_token shape (stop - at) lexeme s.front e (faulty_rest (is_dot lexeme) place l));
   }
 

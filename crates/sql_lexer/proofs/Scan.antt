@@ -31,10 +31,10 @@ walk_end state = refl
 
 pub goes_on : (text : List ℕ) (from at : ℕ) (state next : State) → at < length text → Goes text from at state → step state (class (get_or text at 0)) ≡ Some next → Goes text from (at + 1) next
 goes_on text from at state next lt g e = record {
-    within = omega arith;
-    same = g.same ∙ ap (λ u. ahead at (walk step state (map class u))) (split_here text at lt) ∙ ap (ahead at) (walk_by (get_or text at 0) (drop (at + 1) text) state (Some next) e)
-      ∙ ap (λ n. (n, (walk step next (map class (drop (at + 1) text))).1)) (let x = (walk step next (map class (drop (at + 1) text))).0 in omega arith)
-  }
+  within = omega arith;
+  same = g.same ∙ ap (λ u. ahead at (walk step state (map class u))) (split_here text at lt) ∙ ap (ahead at) (walk_by (get_or text at 0) (drop (at + 1) text) state (Some next) e)
+      ∙ ap (λ n. (n, (walk step next (map class (drop (at + 1) text))).1)) (let x = (walk step next (map class (drop (at + 1) text))).0 in omega arith);
+}
 
 pub goes_stop : (text : List ℕ) (from at : ℕ) (state : State) → at < length text → Goes text from at state → step state (class (get_or text at 0)) ≡ None → (at, state) ≡ from_here text from t.Start
 goes_stop text from at state lt g e =

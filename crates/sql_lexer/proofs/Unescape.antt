@@ -1,8 +1,8 @@
 -- The loop that reads escapes.
-use Rattle.std.proofs.Common.{◌≡◌, ℕ, zero, suc, ◌+◌, ◌<◌, ◌≤◌, Bool, true, false, cond, List, [], ◌∷◌, ◌++◌, length, drop, get_or, Option, Some, None, refl, sym, ◌∙◌, ap, subst, add-one, drop-cons, append_assoc, append-nil, length-drop, arith}
+use Rattle.std.proofs.Common.{◌≡◌, ℕ, zero, suc, ◌+◌, ◌<◌, ◌≤◌, true, false, cond, List, [], ◌∷◌, ◌++◌, length, drop, get_or, Option, Some, None, refl, sym, ◌∙◌, ap, add-one, drop-cons, append_assoc, append-nil, length-drop, arith}
 use Rattle.std.proofs.lemmas.List.{drop_all, drop-drop}
 use Rattle.std.proofs.lemmas.Bool.Decides.{nat_tests}
-use Rattle.std.specs.Prelude.{◌==◌, option_map, option_and_then}
+use Rattle.std.specs.Prelude.{◌==◌, option_and_then}
 use Rattle.sql_ast.specs.declared.pieces.Content.{Content}
 use Rattle.sql_ast.specs.Values.{Escape, escape, after, unescape_from}
 
@@ -46,10 +46,10 @@ module _ (kind : Content) (bytes : List ℕ) (at : ℕ) (read : List ℕ) (g : U
     goes_plain e more is = record {
       within = omega arith;
       same = ap (λ u. after u (unescape_from kind 0 (drop (at + 1) bytes))) is
-        ∙ sym (after_after read (get_or bytes at 0 ∷ []) (unescape_from kind 0 (drop (at + 1) bytes)))
-        ∙ ap (after read) (sym (plain kind (get_or bytes at 0) (drop (at + 1) bytes) e))
-        ∙ ap (λ u. after read (unescape_from kind 0 u)) (sym (split_here bytes at lt))
-        ∙ g.same;
+          ∙ sym (after_after read (get_or bytes at 0 ∷ []) (unescape_from kind 0 (drop (at + 1) bytes)))
+          ∙ ap (after read) (sym (plain kind (get_or bytes at 0) (drop (at + 1) bytes) e))
+          ∙ ap (λ u. after read (unescape_from kind 0 u)) (sym (split_here bytes at lt))
+          ∙ g.same;
     }
 
     here : (get_or bytes at 0 == 92) ≡ true → (o : Option Escape) → escape kind (drop (at + 1) bytes) ≡ o → unescape_from kind 0 (drop at bytes) ≡ behind kind (drop (at + 1) bytes) o
@@ -66,11 +66,11 @@ module _ (kind : Content) (bytes : List ℕ) (at : ℕ) (read : List ℕ) (g : U
         record {
           within = omega arith;
           same = ap (λ u. after u (unescape_from kind 0 (drop next bytes))) put
-            ∙ sym (after_after read f.bytes (unescape_from kind 0 (drop next bytes)))
-            ∙ ap (λ u. after read (after f.bytes (unescape_from kind 0 u))) (sym far)
-            ∙ ap (λ o. after read (after f.bytes o)) (sym (passed kind f.size (drop (at + 1) bytes)))
-            ∙ ap (after read) (sym (here e (Some f) is))
-            ∙ g.same;
+              ∙ sym (after_after read f.bytes (unescape_from kind 0 (drop next bytes)))
+              ∙ ap (λ u. after read (after f.bytes (unescape_from kind 0 u))) (sym far)
+              ∙ ap (λ o. after read (after f.bytes o)) (sym (passed kind f.size (drop (at + 1) bytes)))
+              ∙ ap (after read) (sym (here e (Some f) is))
+              ∙ g.same;
         }
 
   pub ends : length bytes ≤ at → Some read ≡ unescape_from kind 0 bytes

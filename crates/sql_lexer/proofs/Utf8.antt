@@ -1,13 +1,12 @@
 -- What literals and names say is UTF-8, as the text is.
-use Rattle.std.proofs.Common.{◌≡◌, ℕ, zero, suc, ◌+◌, ◌-◌, ◌^◌, ◌<◌, ◌≤◌, Bool, true, false, cond, ◌&&◌, ◌||◌, List, [], ◌∷◌, ◌++◌, length, take, drop, get_or, Option, Some, None, refl, sym, ◌∙◌, ap, subst, append_assoc, length-drop, length-append, arith}
+use Rattle.std.proofs.Common.{◌≡◌, ℕ, ◌-◌, ◌^◌, ◌<◌, ◌≤◌, Bool, true, false, cond, ◌&&◌, ◌||◌, List, [], ◌∷◌, length, take, get_or, Option, Some, None, refl, sym, ap, subst, arith}
 use Rattle.std.proofs.lemmas.List.{get_or-take, length-take-le}
 use Rattle.std.proofs.lemmas.List.Folds.{list_all_at}
 use Rattle.std.proofs.lemmas.Bool.Decides.{nat_tests}
-use Rattle.std.proofs.lemmas.Str.{IsUtf8-append, IsUtf8-nil, IsUtf8-encode, IsUtf8-drop, IsUtf8-from_ascii, IsCharBoundary-after_ascii, encode_ascii, inside_one, length-encode, len_utf8_bounds}
+use Rattle.std.proofs.lemmas.Str.{IsUtf8-encode, encode_ascii}
 use Rattle.std.specs.Prelude.{◌==◌, nat_lt, nat_le, IsUtf8, option_map, option_and_then, encode_utf8}
-use Rattle.std.specs.Char.{digit_value, is_digit, IsScalar}
+use Rattle.std.specs.Char.{is_digit, IsScalar}
 use Rattle.std.specs.List.{list_all}
-use Rattle.sql_ast.specs.declared.pieces.Content.{Content}
 use Rattle.sql_ast.specs.declared.pieces.Content.TheVariants as content
 use Rattle.sql_ast.specs.Values.{Escape, escape, one, numbered, number_at_start, number, number_of, are_digits, coded, is_code_point, octal, hexadecimal, code_point}
 
@@ -57,9 +56,9 @@ of_and false y e = absurd (cc)
 
 each_digit : (base : ℕ) (digits : List ℕ) (k : ℕ) → list_all (λ d. is_digit d base) digits ≡ true → k < length digits → is_digit (get_or digits k 0) base ≡ true
 each_digit base digits k e lt = elim (is_digit (get_or digits k 0) base) as (λ b. is_digit (get_or digits k 0) base ≡ b → b ≡ true) [
-    true ↦ λ _. refl
+  | true ↦ λ _. refl
   | false ↦ λ f. let g = list_all_at (λ d. is_digit d base) digits k 0 lt f in absurd (cc)
-  ] refl
+] refl
 
 le_of : (a b : ℕ) → nat_le a b ≡ true → a ≤ b
 le_of a b e = grind (arith, nat_tests)
@@ -116,8 +115,8 @@ by_number bytes (Some n) f g = g n refl
 octal_sound : (bytes : List ℕ) → Each bytes (octal content.Text bytes)
 octal_sound bytes = by_number bytes (number_at_start 8 3 bytes) (λ n. cond (nat_le n 255) (numbered content.Text 3 n) None) (λ n e.
     by_test (Each bytes) (nat_le n 255) (numbered content.Text 3 n) None
-      (λ _. numbered_sound 3 n bytes (omega arith) (digits_within 8 3 bytes n (omega arith) (omega arith) e) (digits_ascii 8 3 bytes n (omega arith) (omega arith) e))
-      (λ _. none_sound bytes))
+    (λ _. numbered_sound 3 n bytes (omega arith) (digits_within 8 3 bytes n (omega arith) (omega arith) e) (digits_ascii 8 3 bytes n (omega arith) (omega arith) e))
+    (λ _. none_sound bytes))
 
 hexadecimal_sound : (b : ℕ) (more : List ℕ) → Each (b ∷ more) (hexadecimal content.Text more)
 hexadecimal_sound b more = by_number (b ∷ more) (number_at_start 16 2 more) (numbered content.Text 3) (λ n e.

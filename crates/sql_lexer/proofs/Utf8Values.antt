@@ -5,11 +5,10 @@ use Rattle.std.proofs.lemmas.Str.{IsUtf8-append, IsUtf8-nil, IsUtf8-encode, IsUt
 use Rattle.std.specs.Prelude.{◌==◌, IsUtf8, IsCharBoundary, encode_utf8, encode_utf8_all}
 use Rattle.std.specs.Char.{IsScalar}
 use Rattle.std.specs.Str.{all_scalars}
-use Rattle.sql_ast.specs.declared.pieces.Content.{Content}
 use Rattle.sql_ast.specs.declared.pieces.Content.TheVariants as content
 use Rattle.sql_ast.specs.Values.{Escape, escape, after, unescape_from, unescape, lines_after, lines}
 use Rattle.sql_lexer.proofs.Unescape.{passed, behind, backslash, plain}
-use Rattle.sql_lexer.proofs.Utf8.{Sound, sound, of_and}
+use Rattle.sql_lexer.proofs.Utf8.{sound, of_and}
 
 -- ---- characters whose bytes a test spares
 
@@ -25,9 +24,9 @@ spared_from p (b ∷ w) h = (h 0 (omega arith), spared_from p w (λ k lt. h (suc
 -- a test that only ASCII passes spares a character that doesn't pass it
 spared_char : (p : ℕ → Bool) → ((b : ℕ) → p b ≡ true → b < 128) → (c : ℕ) → p c ≡ false → Spared p (encode_utf8 c)
 spared_char p low c out = spared_from p (encode_utf8 c) (λ k lt. elim (p (get_or (encode_utf8 c) k 0)) as (λ t. p (get_or (encode_utf8 c) k 0) ≡ t → t ≡ false) [
-    true ↦ λ e. let same = inside_one c [] (encode_utf8 c) k (sym (append-nil (encode_utf8 c))) lt (low (get_or (encode_utf8 c) k 0) e) in absurd (let f : p c ≡ true = ap p same ∙ e in cc)
+  | true ↦ λ e. let same = inside_one c [] (encode_utf8 c) k (sym (append-nil (encode_utf8 c))) lt (low (get_or (encode_utf8 c) k 0) e) in absurd (let f : p c ≡ true = ap p same ∙ e in cc)
   | false ↦ λ e. refl
-  ] refl)
+] refl)
 
 -- the first character of a text, and what is behind it
 record First (u : List ℕ) : Type 0 where
@@ -77,9 +76,9 @@ utf8_behind u k h some within ascii =
 
 other_first : (b : ℕ) (u : List ℕ) (f : First (b ∷ u)) → is_slope b ≡ false → is_slope f.char ≡ false
 other_first b u f h = elim (is_slope f.char) as (λ t. is_slope f.char ≡ t → t ≡ false) [
-    true ↦ λ e. absurd (same_byte b u f h (is_92 f.char e))
+  | true ↦ λ e. absurd (same_byte b u f h (is_92 f.char e))
   | false ↦ λ e. refl
-  ] refl
+] refl
   where
     is_92 : (c : ℕ) → is_slope c ≡ true → c ≡ 92
     is_92 c e = grind (arith, nat_tests)
@@ -104,13 +103,13 @@ kept_escape n again u le h (Some f) is v e =
     let g = after_some f.bytes v (unescape_from content.Text f.size u) e in
     let l = length-drop f.size u in
     subst IsUtf8 (sym g.2) (IsUtf8-append f.bytes g.0 s.utf8
-      (again (drop f.size u) (omega arith) (utf8_behind u f.size h s.some s.within s.ascii) g.0 (sym (passed content.Text f.size u) ∙ g.1)))
+    (again (drop f.size u) (omega arith) (utf8_behind u f.size h s.some s.within s.ascii) g.0 (sym (passed content.Text f.size u) ∙ g.1)))
 
 kept : (n : ℕ) → Kept n
 kept n [] le h v e = subst IsUtf8 (let f : [] ≡ v = cc in f) IsUtf8-nil
 kept zero (b ∷ u) le h v e = absurd (omega arith)
 kept (suc n) (b ∷ u) le h v e = elim (is_slope b) as (λ t. is_slope b ≡ t → IsUtf8 v) [
-    true ↦ λ s. kept_escape n (kept n) u (omega arith) (utf8_behind (b ∷ u) 1 h (omega arith) (omega arith) (slope_low b s)) (escape content.Text u) refl v (sym (backslash content.Text b u s) ∙ e)
+  | true ↦ λ s. kept_escape n (kept n) u (omega arith) (utf8_behind (b ∷ u) 1 h (omega arith) (omega arith) (slope_low b s)) (escape content.Text u) refl v (sym (backslash content.Text b u s) ∙ e)
   | false ↦ λ s.
       let f = first_char (b ∷ u) h (omega arith) in
       let run = plain_run (encode_utf8 f.char) f.rest (spared_char is_slope slope_low f.char (other_first b u f s)) in
@@ -118,7 +117,7 @@ kept (suc n) (b ∷ u) le h v e = elim (is_slope b) as (λ t. is_slope b ≡ t �
       let l = shorter f.char f.rest in
       let m = ap length f.is in
       subst IsUtf8 (sym g.2) (IsUtf8-append (encode_utf8 f.char) g.0 (IsUtf8-encode f.char f.scalar) (kept n f.rest (omega arith) f.utf8 g.0 g.1))
-  ] refl
+] refl
 
 pub unescape_utf8 : (u v : List ℕ) → IsUtf8 u → unescape content.Text u ≡ Some v → IsUtf8 v
 unfolding unescape
@@ -142,7 +141,7 @@ line_byte before b more e =
     let f : (b == 10) ≡ false = grind (arith, nat_tests) in
     let g : (b == 13) ≡ false = grind (arith, nat_tests) in
     ap (λ t. cond (t && before == 13) (lines_after b more) (cond (b == 13) 10 b ∷ lines_after b more)) f
-      ∙ ap (λ t. cond t 10 b ∷ lines_after b more) g
+    ∙ ap (λ t. cond t 10 b ∷ lines_after b more) g
 
 line_run : (w rest : List ℕ) (before : ℕ) → Spared ends_line w → lines_after before (w ++ rest) ≡ w ++ lines_after (last_of before w) rest
 line_run [] rest before h = refl
@@ -166,13 +165,13 @@ lines_kept [] s before = IsUtf8-nil
 lines_kept (c ∷ cs) s before =
     let h = of_and _ _ s in
     elim (ends_line c) as (λ t. ends_line c ≡ t → IsUtf8 (lines_after before (encode_utf8 c ++ encode_utf8_all cs))) [
-      false ↦ λ e. subst IsUtf8 (sym (line_run (encode_utf8 c) (encode_utf8_all cs) before (spared_char ends_line line_low c e)))
-        (IsUtf8-append (encode_utf8 c) (lines_after (last_of before (encode_utf8 c)) (encode_utf8_all cs)) (IsUtf8-encode c h.0) (lines_kept cs h.1 (last_of before (encode_utf8 c))))
-    | true ↦ λ e. elim (c == 10) as (λ t. (c == 10) ≡ t → IsUtf8 (lines_after before (encode_utf8 c ++ encode_utf8_all cs))) [
-        true ↦ λ f. subst (λ w. IsUtf8 (lines_after before (w ++ encode_utf8_all cs))) (sym (ap encode_utf8 (is_ten c f) ∙ encode_ascii 10 (omega arith)))
-          (ten_or_none (before == 13) (lines_after 10 (encode_utf8_all cs)) (lines_kept cs h.1 10))
-      | false ↦ λ f. subst (λ w. IsUtf8 (lines_after before (w ++ encode_utf8_all cs))) (sym (ap encode_utf8 (is_line_end c e f) ∙ encode_ascii 13 (omega arith)))
-          (ten (lines_after 13 (encode_utf8_all cs)) (lines_kept cs h.1 13))
+      | false ↦ λ e. subst IsUtf8 (sym (line_run (encode_utf8 c) (encode_utf8_all cs) before (spared_char ends_line line_low c e)))
+          (IsUtf8-append (encode_utf8 c) (lines_after (last_of before (encode_utf8 c)) (encode_utf8_all cs)) (IsUtf8-encode c h.0) (lines_kept cs h.1 (last_of before (encode_utf8 c))))
+      | true ↦ λ e. elim (c == 10) as (λ t. (c == 10) ≡ t → IsUtf8 (lines_after before (encode_utf8 c ++ encode_utf8_all cs))) [
+        | true ↦ λ f. subst (λ w. IsUtf8 (lines_after before (w ++ encode_utf8_all cs))) (sym (ap encode_utf8 (is_ten c f) ∙ encode_ascii 10 (omega arith)))
+            (ten_or_none (before == 13) (lines_after 10 (encode_utf8_all cs)) (lines_kept cs h.1 10))
+        | false ↦ λ f. subst (λ w. IsUtf8 (lines_after before (w ++ encode_utf8_all cs))) (sym (ap encode_utf8 (is_line_end c e f) ∙ encode_ascii 13 (omega arith)))
+            (ten (lines_after 13 (encode_utf8_all cs)) (lines_kept cs h.1 13))
       ] refl
     ] refl
 

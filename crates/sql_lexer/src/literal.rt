@@ -95,7 +95,12 @@ fn quotes_size(quotes: Quotes) -> usize
 }
 
 /// What a literal says. None where a backslash begins no escape.
-pub fn literal(alloc: Global, prefix: LiteralPrefix, quotes: Quotes, text: &str) -> Result<Option<Lexeme>, AllocError>
+pub fn literal(
+    alloc: Global,
+    prefix: LiteralPrefix,
+    quotes: Quotes,
+    text: &str,
+) -> Result<Option<Lexeme>, AllocError>
     requires { Marked text.now (values.prefix_size prefix + values.quotes_size quotes) (values.quotes_size quotes) }
     ensures { IfOk result (λ l. l ≡ values.literal prefix quotes text.now) }
 {

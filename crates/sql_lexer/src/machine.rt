@@ -328,7 +328,12 @@ pub fn step(state: State, class: Class) -> Option<State>
         ),
         State::Within(mark, shape) => within(mark, shape, State::Closed(shape), class),
         State::Escape(mark, shape) => when(!is_line_break(class), State::Within(mark, shape)),
-        State::Triple(quote, prefix) => thrice(quote, prefix, State::TripleOne(quote, prefix), class),
+        State::Triple(quote, prefix) => thrice(
+            quote,
+            prefix,
+            State::TripleOne(quote, prefix),
+            class,
+        ),
         State::TripleOne(quote, prefix) => {
             thrice(quote, prefix, State::TripleTwo(quote, prefix), class)
         }

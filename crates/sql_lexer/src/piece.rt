@@ -144,7 +144,12 @@ fn meaning(alloc: Global, dot: bool, shape: Shape, text: &str) -> Result<Option<
 /// UTF-8, a name has no byte or more than 128, a number is no number or above 18446744073709551615, or a backslash begins
 /// no escape.
 #[tactic(auto, unfolding(sql_ast::specs::Values::read))]
-pub fn read(alloc: Global, dot: bool, shape: Shape, bytes: &[u8]) -> Result<Option<Piece>, AllocError>
+pub fn read(
+    alloc: Global,
+    dot: bool,
+    shape: Shape,
+    bytes: &[u8],
+) -> Result<Option<Piece>, AllocError>
     requires { Form shape (map class bytes.now) }
     ensures { IfOk result (λ p. p ≡ values.read dot shape bytes.now) }
 {

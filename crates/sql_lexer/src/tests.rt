@@ -41,10 +41,19 @@ fn tokens_text(alloc: Global, text: &[u8]) -> Result<String, AllocError> {
 /// A text, and what its tokens are.
 const ROWS: [(&[u8], &str); 70] = [
     // Words and names.
-    (b"SELECT a, 'x' from t", "end 20 0-6 Select 7-8 name a 8-9 Comma 10-13 'x' 14-18 From 19-20 name t"),
-    (b"a . /* c */ case", "end 16 0-1 name a 2-3 Dot 12-16 name case"),
+    (
+        b"SELECT a, 'x' from t",
+        "end 20 0-6 Select 7-8 name a 8-9 Comma 10-13 'x' 14-18 From 19-20 name t",
+    ),
+    (
+        b"a . /* c */ case",
+        "end 16 0-1 name a 2-3 Dot 12-16 name case",
+    ),
     (b"1.FROM t", "end 8 0-1 1 1-2 Dot 2-6 name FROM 7-8 name t"),
-    (b"`select` DATE `date` a.offset", "end 29 0-8 name select 9-13 word DATE 14-20 name date 21-22 name a 22-23 Dot 23-29 word offset"),
+    (
+        b"`select` DATE `date` a.offset",
+        "end 29 0-8 name select 9-13 word DATE 14-20 name date 21-22 name a 22-23 Dot 23-29 word offset",
+    ),
     (b"_1 selects", "end 10 0-2 name _1 3-10 name selects"),
     (b"`a\\nb\\xe9`", "end 10 0-10 name a\nb\u{e9}"),
     (b"``", "fault 0"),
@@ -58,7 +67,10 @@ const ROWS: [(&[u8], &str); 70] = [
     (b"a \0", "fault 2"),
     // Integers.
     (b"007 0xfF 0XFF", "end 13 0-3 7 4-8 255 9-13 255"),
-    (b"18446744073709551615 0xFFFFFFFFFFFFFFFF", "end 39 0-20 18446744073709551615 21-39 18446744073709551615"),
+    (
+        b"18446744073709551615 0xFFFFFFFFFFFFFFFF",
+        "end 39 0-20 18446744073709551615 21-39 18446744073709551615",
+    ),
     (b"18446744073709551616", "fault 0"),
     (b"0x10000000000000000", "fault 0"),
     (b"1.5", "end 3 0-1 1 1-2 Dot 2-3 5"),
@@ -81,14 +93,26 @@ const ROWS: [(&[u8], &str); 70] = [
     (b"r'\\''", "end 5 0-5 '\\''"),
     (b"r'\\'", "fault 0"),
     (b"r'''a\r\n\\\r'''", "end 12 0-12 'a\n\\\n'"),
-    (b"bR'\\x' Rb\"b\" B'c' br rb", "end 23 0-6 [92, 120] 7-12 [98] 13-17 [99] 18-20 name br 21-23 name rb"),
+    (
+        b"bR'\\x' Rb\"b\" B'c' br rb",
+        "end 23 0-6 [92, 120] 7-12 [98] 13-17 [99] 18-20 name br 21-23 name rb",
+    ),
     (b"rr'a'", "end 5 0-2 name rr 2-5 'a'"),
     (b"'\xff'", "fault 0"),
     // Escapes.
-    (b"'\\a\\b\\f\\n\\r\\t\\v'", "end 16 0-16 '\u{7}\u{8}\u{c}\n\r\t\u{b}'"),
+    (
+        b"'\\a\\b\\f\\n\\r\\t\\v'",
+        "end 16 0-16 '\u{7}\u{8}\u{c}\n\r\t\u{b}'",
+    ),
     (b"'\\\\\\?\\\"\\'\\`'", "end 12 0-12 '\\?\"'`'"),
-    (b"'\\xff\\377\\u00ff\\U0001F600'", "end 26 0-26 '\u{ff}\u{ff}\u{ff}\u{1f600}'"),
-    (b"b'\\xFf\\377\\0001\\n'", "end 18 0-18 [255, 255, 0, 49, 10]"),
+    (
+        b"'\\xff\\377\\u00ff\\U0001F600'",
+        "end 26 0-26 '\u{ff}\u{ff}\u{ff}\u{1f600}'",
+    ),
+    (
+        b"b'\\xFf\\377\\0001\\n'",
+        "end 18 0-18 [255, 255, 0, 49, 10]",
+    ),
     (b"a '\\400'", "fault 2"),
     (b"b'\\400'", "fault 0"),
     (b"b'\\u0041'", "fault 0"),
@@ -102,18 +126,30 @@ const ROWS: [(&[u8], &str); 70] = [
     (b"'\\128'", "fault 0"),
     (b"`\\u12`", "fault 0"),
     // Parameters.
-    (b"@select @`x y` @_1", "end 18 0-7 @select 8-14 @x y 15-18 @_1"),
+    (
+        b"@select @`x y` @_1",
+        "end 18 0-7 @select 8-14 @x y 15-18 @_1",
+    ),
     (b"@ x", "fault 0"),
     (b"x @1", "fault 2"),
     (b"@``", "fault 0"),
     // Signs.
-    (b"()[],.;+-*~&^|=", "end 15 0-1 OpenRound 1-2 CloseRound 2-3 OpenSquare 3-4 CloseSquare 4-5 Comma 5-6 Dot 6-7 Semicolon 7-8 Plus 8-9 Minus 9-10 Star 10-11 Tilde 11-12 Ampersand 12-13 Caret 13-14 Bar 14-15 Equal"),
-    (b"|| != <> < <= << > >= ->", "end 24 0-2 BarBar 3-5 BangEqual 6-8 LessGreater 9-10 Less 11-13 LessEqual 14-16 LessLess 17-18 Greater 19-21 GreaterEqual 22-24 Arrow"),
+    (
+        b"()[],.;+-*~&^|=",
+        "end 15 0-1 OpenRound 1-2 CloseRound 2-3 OpenSquare 3-4 CloseSquare 4-5 Comma 5-6 Dot 6-7 Semicolon 7-8 Plus 8-9 Minus 9-10 Star 10-11 Tilde 11-12 Ampersand 12-13 Caret 13-14 Bar 14-15 Equal",
+    ),
+    (
+        b"|| != <> < <= << > >= ->",
+        "end 24 0-2 BarBar 3-5 BangEqual 6-8 LessGreater 9-10 Less 11-13 LessEqual 14-16 LessLess 17-18 Greater 19-21 GreaterEqual 22-24 Arrow",
+    ),
     (b">>=", "end 3 0-1 Greater 1-3 GreaterEqual"),
     (b"a ! b", "fault 2"),
     (b"a / b", "fault 2"),
     // Comments.
-    (b"a -- c\n b # d\r e /* ** / */ f --", "end 32 0-1 name a 8-9 name b 15-16 name e 28-29 name f"),
+    (
+        b"a -- c\n b # d\r e /* ** / */ f --",
+        "end 32 0-1 name a 8-9 name b 15-16 name e 28-29 name f",
+    ),
     (b"a /* /* */ *", "end 12 0-1 name a 11-12 Star"),
     (b"/*/", "fault 0"),
     (b"a /* \xff */", "fault 2"),
@@ -129,7 +165,13 @@ fn tokens_of_texts(rt: HostRuntime) -> Result<(), Fail> {
 }
 
 /// So many letters between a front and a back.
-fn long_text(alloc: Global, front: &[u8], letter: u8, count: usize, back: &[u8]) -> Result<Vec<u8>, AllocError> {
+fn long_text(
+    alloc: Global,
+    front: &[u8],
+    letter: u8,
+    count: usize,
+    back: &[u8],
+) -> Result<Vec<u8>, AllocError> {
     let mut text = Vec::from_slice(alloc, front)?;
     for _ in 0..count {
         text.push(letter)?;

@@ -10,5 +10,5 @@ pub bytes-preserved : goal.bytes-preserved
 bytes-preserved c =
     let rest = take_rest c.args.bytes.now (c.bytes.at + 1) in
     goes_escape c.args.kind c.args.bytes.now c.bytes.at c.bytes.read.items c.bytes.invariant c.bytes-test.true (is_backslash _ (c.if-bytes-at-ne92.false))
-      (escape_of c.in-Some.escape) (ap (escape c.args.kind) (sym rest) ∙ sym (c.escape_at_start.ensures.value) ∙ ap (option_map escape_of) (c.in-Some.is))
-      (rw rest at (c.in-Some.ensures.within)) (c.bytes.at + (1 + c.in-Some.escape.size)) refl c.put.new.bytes.items (c.in_ok-put-in-Some.ensures)
+    (escape_of c.in-Some.escape) (ap (escape c.args.kind) (sym rest) ∙ sym (c.escape_at_start.ensures.value) ∙ ap (option_map escape_of) (c.in-Some.is))
+    (rw rest at (c.in-Some.ensures.within)) (c.bytes.at + (1 + c.in-Some.escape.size)) refl c.put.new.bytes.items (c.in_ok-put-in-Some.ensures)

@@ -26,7 +26,7 @@ pub pieces-preserved : goal.pieces-preserved
 pieces-preserved c =
     let h : Stood c.args.text.now c.pieces.at c.piece-end.result.0 (Some c.in-Some.shape) = subst (Stood c.args.text.now c.pieces.at c.piece-end.result.0) c.in-Some.is c.piece-end.ensures.front in
     token c.args.text.now c.pieces.at c.piece-end.result.0 c.pieces.dot c.pieces.list c.in-Some.shape c.pieces.invariant h c.in-Some-Token.lexeme c.is_dot-dot.result c.push.new.self
-      (sym (c.in_ok-read-in-Some.ensures) ∙ c.in-Some-Token.is ∙ ap Some c.in-Some-Token.field-0-is) c.is_dot-dot.ensures c.in_ok-push-in-Some-Token.ensures.ok
+    (sym (c.in_ok-read-in-Some.ensures) ∙ c.in-Some-Token.is ∙ ap Some c.in-Some-Token.field-0-is) c.is_dot-dot.ensures c.in_ok-push-in-Some-Token.ensures.ok
 
 pub returns : goal.returns
 returns c = (subst (Lexes 0 false c.args.text.now) (sym (c.with_end.ensures.list)) (all_read c.args.text.now c.pieces.at c.pieces.dot c.pieces.list c.pieces.invariant c.pieces-test.false), c.with_end.ensures.end)

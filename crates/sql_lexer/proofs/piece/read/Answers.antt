@@ -19,7 +19,7 @@ pub returns-in-Ok : goal.returns-in-Ok
 returns-in-Ok c =
     let h = c.in-Ok.ensures.cases in
     subst (λ (o : Option Piece). IfOk c.meaning.result (λ p. p ≡ o))
-      (ap (meaning c.args.dot c.args.shape) h.0 ∙ read_text c.args.dot c.args.shape c.args.bytes.now true (is_utf8-from_IsUtf8 c.args.bytes.now h.1)) c.meaning.ensures
+    (ap (meaning c.args.dot c.args.shape) h.0 ∙ read_text c.args.dot c.args.shape c.args.bytes.now true (is_utf8-from_IsUtf8 c.args.bytes.now h.1)) c.meaning.ensures
 
 pub returns-in-Err : goal.returns-in-Err
 returns-in-Err c =
