@@ -6,17 +6,15 @@ use Rattle.sql_ast.specs.declared.pieces.Mark.TheVariants as mark
 use Rattle.sql_ast.specs.declared.pieces.Class.{Class}
 use Rattle.sql_ast.specs.declared.pieces.Class.TheVariants as c
 use Rattle.sql_ast.specs.declared.pieces.LiteralPrefix.{LiteralPrefix}
-use Rattle.sql_ast.specs.declared.pieces.LiteralPrefix.TheVariants as prefix
 use Rattle.sql_ast.specs.declared.pieces.Quotes.{Quotes}
 use Rattle.sql_ast.specs.declared.pieces.Quotes.TheVariants as quotes
 use Rattle.sql_ast.specs.declared.pieces.Shape.{Shape}
 use Rattle.sql_ast.specs.declared.pieces.Shape.TheVariants as s
-use Rattle.sql_ast.specs.Classes.{is_letter, is_inner, closes, same_quote, is_backslash, is_line_break, is_star, is_slash, is_blank, is_single, is_pair, is_after_less, is_equal, is_greater, is_bar}
-use Rattle.sql_ast.specs.Forms.{Inner, inner_none, inner_more, Rest, rest_end, rest_escape, rest_more, Tripled, tripled_end, tripled_escape, tripled_more, tripled_one, tripled_two, Quoted, quoted_once, quoted_thrice, Line, line_none, line_more, Block, block_end, block_star, block_more, Form, form_word, form_integer, form_quoted_name, form_plain, form_raw, form_bytes, form_raw_bytes, form_bytes_raw, form_parameter, form_quoted_parameter, form_single, form_pair, form_blank, form_dashes, form_hash, form_block}
-use Rattle.sql_lexer.specs.declared.machine.State.{State}
+use Rattle.sql_ast.specs.Classes.{closes, same_quote, is_backslash, is_line_break}
+use Rattle.sql_ast.specs.Forms.{Rest, rest_end, rest_escape, rest_more, Tripled, Quoted, quoted_once, quoted_thrice}
 use Rattle.sql_lexer.specs.declared.machine.State.TheVariants as t
-use Rattle.sql_lexer.specs.Machine.{start, opened, within, thrice, in_block, is_letter_r, is_letter_b, is_minus, step, whole}
-use Rattle.sql_lexer.proofs.Left.{Of, of, Literal, literal, Empty, empty, Behind, behind_word, behind_literal, mark_of, Left, Next, on_true, on_false, by_test, both, is_b, is_r, is_the_backslash, is_the_star, is_the_slash, is_the_minus, quote_self, is_the_quote, is_the_backquote}
+use Rattle.sql_lexer.specs.Machine.{within}
+use Rattle.sql_lexer.proofs.Left.{Of, of, Literal, literal, Empty, empty, mark_of, Next, on_true, on_false, by_test, is_the_backslash, quote_self, is_the_quote}
 
 -- ---- within marks
 

@@ -1,13 +1,11 @@
 -- A text has one list of tokens, or one first fault.
-use Rattle.std.proofs.Common.{◌≡◌, ◌⊎◌, inl, inr, ℕ, zero, suc, ◌+◌, ◌-◌, ◌<◌, ◌≤◌, Bool, true, false, List, [], ◌∷◌, length, take, drop, map, Option, Some, None, refl, sym, ◌∙◌, ap, subst, length-drop, arith}
+use Rattle.std.proofs.Common.{◌≡◌, ◌⊎◌, inl, inr, ℕ, zero, suc, ◌+◌, ◌<◌, ◌≤◌, Bool, false, List, [], ◌∷◌, length, take, drop, map, Option, Some, None, refl, sym, ap, subst, length-drop, arith}
 use Rattle.std.specs.Prelude.{Result, Ok, Err}
 use Rattle.fronts.specs.Fronts.{Front, OneReading}
 use Rattle.fronts.specs.Machines.{walk}
 use Rattle.fronts.proofs.Walks.{walks, one_reading}
 use Rattle.fronts.proofs.Once.{same_front}
-use Rattle.sql_ast.specs.declared.pieces.Class.{Class}
 use Rattle.sql_ast.specs.declared.pieces.Shape.{Shape}
-use Rattle.sql_ast.specs.declared.pieces.Piece.{Piece}
 use Rattle.sql_ast.specs.declared.pieces.Piece.TheVariants as piece
 use Rattle.sql_ast.specs.declared.token.Lexeme.{Lexeme}
 use Rattle.sql_ast.specs.declared.token.Token.{Token}

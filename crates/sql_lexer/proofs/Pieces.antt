@@ -1,5 +1,5 @@
 -- The loop over the pieces of a text.
-use Rattle.std.proofs.Common.{◌≡◌, ℕ, zero, suc, ◌+◌, ◌-◌, ◌<◌, ◌≤◌, Bool, false, List, [], ◌∷◌, ◌++◌, length, take, drop, map, Option, Some, None, refl, sym, ◌∙◌, ap, subst, append_assoc, append-nil, length-drop, arith}
+use Rattle.std.proofs.Common.{◌≡◌, ℕ, ◌+◌, ◌-◌, ◌<◌, ◌≤◌, Bool, false, List, [], ◌∷◌, ◌++◌, length, take, drop, map, Option, Some, None, sym, ◌∙◌, ap, subst, append_assoc, append-nil, length-drop, arith}
 use Rattle.std.proofs.lemmas.List.{drop_all, drop-drop, length-map, take-map}
 use Rattle.std.specs.Prelude.{IfSome}
 use Rattle.fronts.specs.Fronts.{Front}

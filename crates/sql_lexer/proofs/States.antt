@@ -1,23 +1,21 @@
 -- The machine: what is left at each state goes forth and back by each step.
-use Rattle.std.proofs.Common.{◌≡◌, true, false, cond, List, [], ◌∷◌, Some, None, refl, sym, ap}
+use Rattle.std.proofs.Common.{◌≡◌, true, List, [], ◌∷◌, Some, refl, sym, ap}
 use Rattle.fronts.proofs.Walks.{If, Machine}
 use Rattle.sql_ast.specs.declared.pieces.Quote.{Quote}
 use Rattle.sql_ast.specs.declared.pieces.Mark.{Mark}
 use Rattle.sql_ast.specs.declared.pieces.Mark.TheVariants as mark
 use Rattle.sql_ast.specs.declared.pieces.Class.{Class}
 use Rattle.sql_ast.specs.declared.pieces.Class.TheVariants as c
-use Rattle.sql_ast.specs.declared.pieces.LiteralPrefix.{LiteralPrefix}
-use Rattle.sql_ast.specs.declared.pieces.LiteralPrefix.TheVariants as prefix
 use Rattle.sql_ast.specs.declared.pieces.Quotes.{Quotes}
 use Rattle.sql_ast.specs.declared.pieces.Quotes.TheVariants as quotes
 use Rattle.sql_ast.specs.declared.pieces.Shape.{Shape}
 use Rattle.sql_ast.specs.declared.pieces.Shape.TheVariants as s
-use Rattle.sql_ast.specs.Classes.{is_letter, is_inner, closes, same_quote, is_backslash, is_line_break, is_star, is_slash, is_blank, is_single, is_pair, is_after_less, is_equal, is_greater, is_bar}
-use Rattle.sql_ast.specs.Forms.{Inner, inner_none, inner_more, Rest, rest_end, rest_escape, rest_more, Tripled, tripled_end, tripled_escape, tripled_more, tripled_one, tripled_two, Quoted, quoted_once, quoted_thrice, Line, line_none, line_more, Block, block_end, block_star, block_more, Form, form_word, form_integer, form_quoted_name, form_plain, form_raw, form_bytes, form_raw_bytes, form_bytes_raw, form_parameter, form_quoted_parameter, form_single, form_pair, form_blank, form_dashes, form_hash, form_block}
+use Rattle.sql_ast.specs.Classes.{closes}
+use Rattle.sql_ast.specs.Forms.{inner_none, rest_end, rest_escape, rest_more, Tripled, tripled_end, tripled_escape, tripled_more, tripled_one, Quoted, quoted_once, line_none, block_end, block_more, form_word, form_plain, form_raw, form_bytes, form_parameter, form_single, form_pair, form_blank, form_block}
 use Rattle.sql_lexer.specs.declared.machine.State.{State}
 use Rattle.sql_lexer.specs.declared.machine.State.TheVariants as t
-use Rattle.sql_lexer.specs.Machine.{start, opened, within, thrice, in_block, is_letter_r, is_letter_b, is_minus, step, whole}
-use Rattle.sql_lexer.proofs.Left.{Of, of, Literal, literal, Empty, empty, Behind, behind_word, behind_literal, mark_of, Left, Next, on_true, on_false, by_test, both, is_b, is_r, is_the_backslash, is_the_star, is_the_slash, is_the_minus, quote_self, is_the_quote, is_the_backquote}
+use Rattle.sql_lexer.specs.Machine.{step, whole}
+use Rattle.sql_lexer.proofs.Left.{Of, of, literal, Empty, empty, behind_word, behind_literal, mark_of, Left, Next, quote_self}
 use Rattle.sql_lexer.proofs.Starts.{forth_start, back_start, forth_inner, back_inner, forth_at, back_at, forth_letter_r, back_letter_r, forth_letter_b, back_letter_b, forth_both, back_both}
 use Rattle.sql_lexer.proofs.Enclosed.{forth_within, back_within, forth_escape, back_escape, forth_opened, back_opened, forth_twice, back_twice}
 use Rattle.sql_lexer.proofs.Thrice.{forth_triple, back_triple, forth_one, back_one, forth_two, back_two, forth_triple_escape, back_triple_escape}

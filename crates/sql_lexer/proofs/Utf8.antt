@@ -1,13 +1,12 @@
 -- What literals and names say is UTF-8, as the text is.
-use Rattle.std.proofs.Common.{◌≡◌, ℕ, zero, suc, ◌+◌, ◌-◌, ◌^◌, ◌<◌, ◌≤◌, Bool, true, false, cond, ◌&&◌, ◌||◌, List, [], ◌∷◌, ◌++◌, length, take, drop, get_or, Option, Some, None, refl, sym, ◌∙◌, ap, subst, append_assoc, length-drop, length-append, arith}
+use Rattle.std.proofs.Common.{◌≡◌, ℕ, ◌-◌, ◌^◌, ◌<◌, ◌≤◌, Bool, true, false, cond, ◌&&◌, ◌||◌, List, [], ◌∷◌, length, take, get_or, Option, Some, None, refl, sym, ap, subst, arith}
 use Rattle.std.proofs.lemmas.List.{get_or-take, length-take-le}
 use Rattle.std.proofs.lemmas.List.Folds.{list_all_at}
 use Rattle.std.proofs.lemmas.Bool.Decides.{nat_tests}
-use Rattle.std.proofs.lemmas.Str.{IsUtf8-append, IsUtf8-nil, IsUtf8-encode, IsUtf8-drop, IsUtf8-from_ascii, IsCharBoundary-after_ascii, encode_ascii, inside_one, length-encode, len_utf8_bounds}
+use Rattle.std.proofs.lemmas.Str.{IsUtf8-encode, encode_ascii}
 use Rattle.std.specs.Prelude.{◌==◌, nat_lt, nat_le, IsUtf8, option_map, option_and_then, encode_utf8}
-use Rattle.std.specs.Char.{digit_value, is_digit, IsScalar}
+use Rattle.std.specs.Char.{is_digit, IsScalar}
 use Rattle.std.specs.List.{list_all}
-use Rattle.sql_ast.specs.declared.pieces.Content.{Content}
 use Rattle.sql_ast.specs.declared.pieces.Content.TheVariants as content
 use Rattle.sql_ast.specs.Values.{Escape, escape, one, numbered, number_at_start, number, number_of, are_digits, coded, is_code_point, octal, hexadecimal, code_point}
 

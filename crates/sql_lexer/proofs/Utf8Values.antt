@@ -5,11 +5,10 @@ use Rattle.std.proofs.lemmas.Str.{IsUtf8-append, IsUtf8-nil, IsUtf8-encode, IsUt
 use Rattle.std.specs.Prelude.{◌==◌, IsUtf8, IsCharBoundary, encode_utf8, encode_utf8_all}
 use Rattle.std.specs.Char.{IsScalar}
 use Rattle.std.specs.Str.{all_scalars}
-use Rattle.sql_ast.specs.declared.pieces.Content.{Content}
 use Rattle.sql_ast.specs.declared.pieces.Content.TheVariants as content
 use Rattle.sql_ast.specs.Values.{Escape, escape, after, unescape_from, unescape, lines_after, lines}
 use Rattle.sql_lexer.proofs.Unescape.{passed, behind, backslash, plain}
-use Rattle.sql_lexer.proofs.Utf8.{Sound, sound, of_and}
+use Rattle.sql_lexer.proofs.Utf8.{sound, of_and}
 
 -- ---- characters whose bytes a test spares
 

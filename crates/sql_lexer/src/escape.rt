@@ -88,7 +88,7 @@ fn octal(kind: Content, bytes: &[u8]) -> Option<Escape>
 {
     match number_at_start(8, 3, bytes) {
         Some(number) => {
-            if number <= 255 {
+            if number <= 0o377 {
                 numbered(kind, 3, number)
             } else {
                 None
