@@ -8,14 +8,21 @@ use Rattle.sql_types.specs.declared.value.Value.{Value}
 use Rattle.sql_types.specs.declared.value.Value.TheVariants as v
 use Rattle.csv_tables.specs.Numerals.{int64_of}
 
+-- the bytes of the mark of NULL
+abbrev pub backslash : ℕ
+backslash = 92
+
+abbrev pub letter_n : ℕ
+letter_n = 78
+
 -- a backslash and `N`
 abbrev pub is_null_mark : List ℕ → Bool
-is_null_mark cell = bytes_eq cell (92 ∷ 78 ∷ [])
+is_null_mark cell = bytes_eq cell (backslash ∷ letter_n ∷ [])
 
 -- two or more backslashes and then `N`
 abbrev pub is_escaped_mark : List ℕ → Bool
 is_escaped_mark cell =
-    nat_le 3 (length cell) && (slice_index cell (length cell - 1) == 78) && list_all (λ c. c == 92) (take (length cell - 1) cell)
+    nat_le 3 (length cell) && (slice_index cell (length cell - 1) == letter_n) && list_all (λ c. c == backslash) (take (length cell - 1) cell)
 
 -- the text that a STRING cell writes: such a cell has one backslash too many, and every other one stands for itself
 abbrev pub text_bytes : List ℕ → List ℕ

@@ -37,6 +37,6 @@ only_int64 n = if within (neg_ℤ (pos 9223372036854775808)) (pos 92233720368547
 abbrev pub int64_of : List ℕ → Option ℤ
 int64_of cell = option_and_then only_int64 (integer cell)
 
--- a number below 2 ^ 64
+-- a number that 64 bits hold, as the readers go over it before its sign
 abbrev pub only_u64 : ℕ → Option ℕ
 only_u64 n = if nat_lt n (2 ^ 64) then Some n else None

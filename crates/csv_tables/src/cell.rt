@@ -1,7 +1,6 @@
 //! The value of a cell, by the type of its column.
-ghost use Rattle.std.specs.Prelude.{◌≡◌, option_map, Some, [], ◌∷◌, ◌==◌};
+ghost use Rattle.std.specs.Prelude.{◌≡◌, ◌==◌};
 ghost use Rattle.std.specs.List.{list_all};
-ghost use Rattle.sql_types.specs.declared.value.Value.TheVariants as v;
 ghost use Rattle.csv_tables.specs.Cells as cells;
 ghost use Rattle.csv_tables.specs.Reads.{Reads};
 
@@ -44,7 +43,7 @@ fn is_escaped_mark(cell: &[u8]) -> bool
 }
 
 fn are_backslashes(bytes: &[u8]) -> bool
-    ensures { result ≡ list_all (λ c. c == 92) bytes.now }
+    ensures { result ≡ list_all (λ c. c == cells.backslash) bytes.now }
 {
     bytes.iter().all(|c| *c == b'\\')
 }

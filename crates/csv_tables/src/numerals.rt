@@ -1,5 +1,5 @@
 //! Integers as a cell writes them.
-ghost use Rattle.std.specs.Prelude.{◌≡◌, ◌<◌, ◌≤◌, option_map, option_and_then, pos, neg_ℤ};
+ghost use Rattle.std.specs.Prelude.{◌≡◌, ◌≤◌, option_and_then, pos, neg_ℤ};
 ghost use Rattle.csv_tables.specs.Numerals as numerals;
 
 /// The INT64 that the bytes write: an optional sign, and decimal digits or `0x` and hex digits. Nothing where they

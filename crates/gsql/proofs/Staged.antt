@@ -15,10 +15,23 @@ use Rattle.gsql.specs.declared.stop.Stop.TheVariants.{OtherForm, ReadFault, OutO
 use Rattle.gsql.specs.declared.status.Status.{Status}
 use Rattle.gsql.specs.declared.status.Status.TheVariants as status
 use Rattle.gsql.specs.Counted.{Counted}
-use Rattle.gsql.specs.Report.{Inside, Report, Staged}
+use Rattle.gsql.specs.Report.{Inside, Outside, Report, Staged, Wrote, Ran}
 use Rattle.gsql.specs.Stages.{CatalogStage, NoQuery}
 use Rattle.gsql.specs.Told.{Tells}
 use Rattle.gsql.specs.Words.{asked}
+
+-- a report that was written whole
+pub ran : (words : List (List ℕ)) (inside : Inside) (output error : Outside) (printed answer : Status) (out err : List ℕ) → answer ≡ printed → Report words inside printed out err → Wrote output out → Wrote error err →
+    Ran words inside output error answer
+ran words inside output error printed answer out err same report first second = subst (λ s. Ran words inside output error s) (sym same) (whole printed report)
+  where
+    whole : (s : Status) → Report words inside s out err → Ran words inside output error s
+    whole (status.Done tree) r = (out, err, r, first, second)
+    whole (status.Refused rule place) r = (out, err, r, first, second)
+    whole (status.Usage kind) r = (out, err, r, first, second)
+    whole (status.ReadFault file) r = (out, err, r, first, second)
+    whole status.WriteFault r = absurd r
+    whole status.OutOfMemory r = (out, err, r, first, second)
 
 -- an answer that is this refusal
 abbrev pub refuses : (A : Type 0) {E : Type 0} → E → Result A E
@@ -47,13 +60,11 @@ reported words inside catalog query answer asks stage counted ending out err tel
     status_of (Err OtherForm) = status.Refused 2 0
     status_of (Err (ReadFault file)) = status.ReadFault file
     status_of (Err OutOfMemory) = status.OutOfMemory
-
     ending_of : (r : Result Rows Stop) → Tells r ending out err → ending ≡ status_of r
     ending_of (Ok rows) t = t.0
     ending_of (Err OtherForm) t = t.0
     ending_of (Err (ReadFault file)) t = t.0
     ending_of (Err OutOfMemory) t = t.0
-
     told : (r : Result Rows Stop) → Staged (asked words) inside r → Counted inside.before inside.after inside.broken r → Tells r ending out err → Report words inside (status_of r) out err
     told (Ok rows) s n t = (rows, s, refl, t.1, t.2, n)
     told (Err OtherForm) s n t = (s, refl, refl, t.1, t.2, n)

@@ -1,7 +1,7 @@
 pub mod Words
 pub mod Counted
-pub mod Parts
 pub mod Stages
+pub mod Parts
 pub mod Report
 pub mod Told
 pub mod Writing

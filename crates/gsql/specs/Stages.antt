@@ -15,9 +15,9 @@ use Rattle.small_run.specs.Plans.{one}
 use Rattle.gsql.specs.declared.stop.Stop.{Stop}
 use Rattle.gsql.specs.declared.stop.Stop.TheVariants.{OtherForm, ReadFault, OutOfMemory}
 
--- what is said of a file's bytes, where they are told
+-- What is said of a file's bytes. Where they aren't told, it is said of some bytes.
 abbrev pub OnTold : Option (List ℕ) → (List ℕ → Type 0) → Type 0
-OnTold None P = Unit {0}
+OnTold None P = (bytes : List ℕ) × P bytes
 OnTold (Some bytes) P = P bytes
 
 -- A file is read within its limit, and what its bytes say decides the answer. A file above its limit is of another form.

@@ -1,6 +1,5 @@
 //! A catalog as a whole.
-ghost use Rattle.std.specs.Prelude.{◌≡◌, Some, None, IfOk, option_map, option_and_then, true, false};
-ghost use Rattle.std.specs.Option.{option_map_or};
+ghost use Rattle.std.specs.Prelude.{◌≡◌, IfOk, option_map};
 ghost use Rattle.serde_json.specs.View.{view, items_view};
 ghost use Rattle.small_catalog.specs.Catalogs as catalogs;
 ghost use Rattle.small_catalog.specs.Reads.{Reads};

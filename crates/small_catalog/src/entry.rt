@@ -1,6 +1,5 @@
 //! The parts of an object of JSON.
 ghost use Rattle.std.specs.Prelude.{◌≡◌, option_map, option_and_then};
-ghost use Rattle.std.specs.Option.{option_map_or};
 ghost use Rattle.serde_json.specs.View.{view, items_view};
 ghost use Rattle.small_catalog.specs.Catalogs as catalogs;
 

@@ -5,185 +5,204 @@ use sql_types::{Column, SqlType};
 use std::alloc::{AllocError, Global};
 use std::test::Fail;
 
-/// Whole catalogs, and their tables by `shown`.
-const CATALOGS: [(&str, &str); 18] = [
-    (
-        r#"{"version": 1, "tables": [{"name": "t", "file": "t.csv", "columns": [{"name": "a", "type": "INT64"}, {"name": "b", "type": "STRING"}]}], "definitions": [], "parameters": []}"#,
-        "t in t.csv: a INT64, b STRING",
-    ),
-    (
-        r#" {"parameters":[],"definitions":[],"tables":[{"columns":[{"type":"int64","name":"\u0061 b"}],"file":"","name":"T"}],"version":1} "#,
-        "T in : a b INT64",
-    ),
+/// A table, and what stands behind the tables of a catalog.
+const T: &str = r#"[{"name":"t","file":"f","columns":[{"name":"a","type":"INT64"}]}]"#;
+
+const NO_MORE: &str = r#""definitions":[],"parameters":[]"#;
+
+const READ: &str = "t in f: a INT64";
+
+const REFUSED: &str = "other form";
+
+/// The version, the tables and the other members of a catalog, and its table by `shown`.
+const CATALOGS: [(&str, &str, &str, &str); 37] = [
+    ("1", T, NO_MORE, READ),
+    // the whole number 1 alone is a version
+    ("1.0", T, NO_MORE, REFUSED),
+    ("1e0", T, NO_MORE, REFUSED),
+    ("1e999", T, NO_MORE, REFUSED),
+    ("2", T, NO_MORE, REFUSED),
+    ("-1", T, NO_MORE, REFUSED),
+    ("\"1\"", T, NO_MORE, REFUSED),
+    ("true", T, NO_MORE, REFUSED),
     // of a key that is given twice the last value counts
     (
-        r#"{"version":2,"tables":[{"name":"t","file":"f","columns":[{"name":"a","name":"b","type":"INT64"}]}],"definitions":[1],"definitions":[],"parameters":[],"version":1}"#,
-        "t in f: b INT64",
+        "1",
+        T,
+        r#""definitions":[1],"definitions":[],"parameters":[]"#,
+        READ,
     ),
     (
-        r#"{"version":1,"tables":[{"name":"t","file":"f","columns":[{"name":"a","type":"INT64"}]}],"definitions":[],"parameters":[],"version":2}"#,
-        "other form",
-    ),
-    ("", "other form"),
-    ("[]", "other form"),
-    (r#"{"version":1}"#, "other form"),
-    // a mark at the start, and text behind the end
-    (
-        "\u{feff}{\"version\":1,\"tables\":[{\"name\":\"t\",\"file\":\"f\",\"columns\":[{\"name\":\"a\",\"type\":\"INT64\"}]}],\"definitions\":[],\"parameters\":[]}",
-        "other form",
+        "1",
+        T,
+        r#""definitions":[],"parameters":[],"version":2"#,
+        REFUSED,
     ),
     (
-        r#"{"version":1,"tables":[{"name":"t","file":"f","columns":[{"name":"a","type":"INT64"}]}],"definitions":[],"parameters":[]},"#,
-        "other form",
+        "1",
+        r#"[{"name":"u","file":"f","name":"t","columns":[{"name":"a","type":"INT64"}]}]"#,
+        NO_MORE,
+        READ,
     ),
-    // a missing key, and one more
+    // keys that are missing or too many
+    ("1", T, r#""definitions":[]"#, REFUSED),
+    ("1", T, r#""definitions":[],"parameters":[],"x":1"#, REFUSED),
     (
-        r#"{"version":1,"tables":[{"name":"t","file":"f","columns":[{"name":"a","type":"INT64"}]}],"definitions":[]}"#,
-        "other form",
-    ),
-    (
-        r#"{"version":1,"tables":[{"name":"t","file":"f","columns":[{"name":"a","type":"INT64"}]}],"definitions":[],"parameters":[],"x":1}"#,
-        "other form",
-    ),
-    (
-        r#"{"version":1,"tables":[{"name":"t","file":"f","columns":[{"name":"a","type":"INT64"}],"x":1}],"definitions":[],"parameters":[]}"#,
-        "other form",
-    ),
-    // no table, and two
-    (
-        r#"{"version":1,"tables":[],"definitions":[],"parameters":[]}"#,
-        "other form",
+        "1",
+        r#"[{"name":"t","columns":[{"name":"a","type":"INT64"}]}]"#,
+        NO_MORE,
+        REFUSED,
     ),
     (
-        r#"{"version":1,"tables":[{"name":"t","file":"f","columns":[{"name":"a","type":"INT64"}]},{"name":"u","file":"f","columns":[{"name":"a","type":"INT64"}]}],"definitions":[],"parameters":[]}"#,
-        "other form",
+        "1",
+        r#"[{"name":"t","file":"f","x":1,"columns":[{"name":"a","type":"INT64"}]}]"#,
+        NO_MORE,
+        REFUSED,
+    ),
+    (
+        "1",
+        r#"[{"name":"t","file":"f","columns":[{"name":"a"}]}]"#,
+        NO_MORE,
+        REFUSED,
+    ),
+    (
+        "1",
+        r#"[{"name":"t","file":"f","columns":[{"name":"a","type":"INT64","x":1}]}]"#,
+        NO_MORE,
+        REFUSED,
     ),
     // definitions and parameters
+    ("1", T, r#""definitions":[{}],"parameters":[]"#, REFUSED),
+    ("1", T, r#""definitions":[],"parameters":[0]"#, REFUSED),
+    ("1", T, r#""definitions":{},"parameters":[]"#, REFUSED),
+    // tables
+    ("1", "[]", NO_MORE, REFUSED),
     (
-        r#"{"version":1,"tables":[{"name":"t","file":"f","columns":[{"name":"a","type":"INT64"}]}],"definitions":[{}],"parameters":[]}"#,
-        "other form",
+        "1",
+        r#"[{"name":"t","file":"f","columns":[{"name":"a","type":"INT64"}]},{"name":"u","file":"f","columns":[{"name":"a","type":"INT64"}]}]"#,
+        NO_MORE,
+        REFUSED,
     ),
     (
-        r#"{"version":1,"tables":[{"name":"t","file":"f","columns":[{"name":"a","type":"INT64"}]}],"definitions":[],"parameters":[0]}"#,
-        "other form",
+        "1",
+        r#"[{"name":"","file":"f","columns":[{"name":"a","type":"INT64"}]}]"#,
+        NO_MORE,
+        REFUSED,
     ),
     (
-        r#"{"version":1,"tables":[{"name":"t","file":"f","columns":[{"name":"a","type":"INT64"}]}],"definitions":{},"parameters":[]}"#,
-        "other form",
+        "1",
+        r#"[{"name":"t","file":null,"columns":[{"name":"a","type":"INT64"}]}]"#,
+        NO_MORE,
+        REFUSED,
     ),
-    // no text as file
     (
-        r#"{"version":1,"tables":[{"name":"t","file":null,"columns":[{"name":"a","type":"INT64"}]}],"definitions":[],"parameters":[]}"#,
-        "other form",
+        "1",
+        r#"[{"name":"\u0054 t","file":"","columns":[{"name":"a","type":"String"},{"type":"int64","name":"b"}]}]"#,
+        NO_MORE,
+        "T t in : a STRING, b INT64",
     ),
-];
-
-/// Values of `version`.
-const VERSIONS: [(&str, &str); 8] = [
-    ("1", "t in f: a INT64"),
-    ("1.0", "other form"),
-    ("1e0", "other form"),
-    ("1e999", "other form"),
-    ("2", "other form"),
-    ("-1", "other form"),
-    ("\"1\"", "other form"),
-    ("true", "other form"),
-];
-
-/// Values of `columns`.
-const COLUMNS: [(&str, &str); 13] = [
-    (r#"[{"name":"a","type":"String"}]"#, "t in f: a STRING"),
+    // columns
     (
-        r#"[{"name":"ä","type":"INT64"},{"name":"Ä","type":"INT64"}]"#,
+        "1",
+        r#"[{"name":"t","file":"f","columns":[]}]"#,
+        NO_MORE,
+        REFUSED,
+    ),
+    (
+        "1",
+        r#"[{"name":"t","file":"f","columns":["a"]}]"#,
+        NO_MORE,
+        REFUSED,
+    ),
+    (
+        "1",
+        r#"[{"name":"t","file":"f","columns":[{"name":"","type":"INT64"}]}]"#,
+        NO_MORE,
+        REFUSED,
+    ),
+    (
+        "1",
+        r#"[{"name":"t","file":"f","columns":[{"name":"\ud800","type":"INT64"}]}]"#,
+        NO_MORE,
+        REFUSED,
+    ),
+    (
+        "1",
+        r#"[{"name":"t","file":"f","columns":[{"name":"a","type":"INT32"}]}]"#,
+        NO_MORE,
+        REFUSED,
+    ),
+    (
+        "1",
+        r#"[{"name":"t","file":"f","columns":[{"name":"a","type":" INT64"}]}]"#,
+        NO_MORE,
+        REFUSED,
+    ),
+    (
+        "1",
+        r#"[{"name":"t","file":"f","columns":[{"name":"a","type":"INT64"},{"name":"b","type":"INT64"},{"name":"A","type":"INT64"}]}]"#,
+        NO_MORE,
+        REFUSED,
+    ),
+    (
+        "1",
+        r#"[{"name":"t","file":"f","columns":[{"name":"ä","type":"INT64"},{"name":"Ä","type":"INT64"}]}]"#,
+        NO_MORE,
         "t in f: ä INT64, Ä INT64",
     ),
-    (
-        r#"[{"name":"a","type":"INT64"},{"name":"b","type":"INT64"},{"name":"A","type":"INT64"}]"#,
-        "other form",
-    ),
-    ("[]", "other form"),
-    ("{}", "other form"),
-    (r#"["a"]"#, "other form"),
-    (r#"[{"name":"","type":"INT64"}]"#, "other form"),
-    (r#"[{"name":"\ud800","type":"INT64"}]"#, "other form"),
-    (r#"[{"name":1,"type":"INT64"}]"#, "other form"),
-    (r#"[{"name":"a","type":"INT32"}]"#, "other form"),
-    (r#"[{"name":"a","type":" INT64"}]"#, "other form"),
-    (r#"[{"name":"a"}]"#, "other form"),
-    (r#"[{"name":"a","type":"INT64","x":1}]"#, "other form"),
+    // text behind the end, and no JSON
+    ("1", T, r#""definitions":[],"parameters":[]}}"#, REFUSED),
+    ("1", "", NO_MORE, REFUSED),
+    ("1,", T, NO_MORE, REFUSED),
+    ("", T, NO_MORE, REFUSED),
 ];
 
 #[test]
 fn reads_catalogs(rt: HostRuntime) -> Result<(), Fail> {
-    let alloc = rt.alloc();
-    for (catalog, want) in CATALOGS {
-        assert_eq!(rt; answer(alloc, catalog.as_bytes())?.as_str(), want);
+    for (version, tables, more, want) in CATALOGS {
+        assert_eq!(rt; read(rt.alloc(), version, tables, more)?.as_str(), want);
     }
-    assert_eq!(rt;
-        answer(alloc, b"{\"version\":1\xff}")?.as_str(),
-        "other form"
-    );
     Ok(())
 }
 
 #[test]
-fn reads_versions_and_columns(rt: HostRuntime) -> Result<(), Fail> {
-    let alloc = rt.alloc();
-    for (version, want) in VERSIONS {
-        let catalog = catalog(alloc, version, "t", r#"[{"name":"a","type":"INT64"}]"#)?;
-        assert_eq!(rt; answer(alloc, catalog.as_bytes())?.as_str(), want);
-    }
-    for (columns, want) in COLUMNS {
-        let catalog = catalog(alloc, "1", "t", columns)?;
-        assert_eq!(rt; answer(alloc, catalog.as_bytes())?.as_str(), want);
-    }
+fn reads_no_other_bytes(rt: HostRuntime) -> Result<(), Fail> {
+    assert_eq!(rt; answer(rt.alloc(), b"")?.as_str(), REFUSED);
+    assert_eq!(rt; answer(rt.alloc(), b"[]")?.as_str(), REFUSED);
+    assert_eq!(rt; answer(rt.alloc(), b"{\"\xff\":1}")?.as_str(), REFUSED);
+    let marked =
+        "\u{feff}{\"version\":1,\"tables\":[{\"name\":\"t\",\"file\":\"f\",\"columns\":[{\"name\":\"a\",\"type\":\"INT64\"}]}],\"definitions\":[],\"parameters\":[]}";
+    assert_eq!(rt; answer(rt.alloc(), marked.as_bytes())?.as_str(), REFUSED);
     Ok(())
 }
 
 #[test]
 fn takes_names_of_128_bytes(rt: HostRuntime) -> Result<(), Fail> {
-    let alloc = rt.alloc();
-    let mut name = String::new(alloc);
-    for _ in 0..64 {
-        name.push_str("ß")?;
-    }
-    let catalog_of_128 = catalog(
-        alloc,
-        "1",
-        name.as_str(),
-        r#"[{"name":"a","type":"INT64"}]"#,
-    )?;
-    assert!(rt; read_catalog(alloc, catalog_of_128.as_bytes()).is_ok());
-    name.push_str("s")?;
-    let catalog_of_129 = catalog(
-        alloc,
-        "1",
-        name.as_str(),
-        r#"[{"name":"a","type":"INT64"}]"#,
-    )?;
-    assert_eq!(rt;
-        answer(alloc, catalog_of_129.as_bytes())?.as_str(),
-        "other form"
-    );
+    assert!(rt; takes_name_of(rt.alloc(), 128)?);
+    assert!(rt; !takes_name_of(rt.alloc(), 129)?);
     Ok(())
 }
 
-/// A catalog with this version, and this name and these columns of its table.
-fn catalog(alloc: Global, version: &str, name: &str, columns: &str) -> Result<String, AllocError> {
-    let mut text = String::from_str(alloc, "{\"version\":")?;
-    text.push_str(version)?;
-    text.push_str(",\"tables\":[{\"name\":\"")?;
-    text.push_str(name)?;
-    text.push_str("\",\"file\":\"f\",\"columns\":")?;
-    text.push_str(columns)?;
-    text.push_str("}],\"definitions\":[],\"parameters\":[]}")?;
-    Ok(text)
+fn read(alloc: Global, version: &str, tables: &str, more: &str) -> Result<String, AllocError> {
+    let text = format!(in alloc; "{{\"version\":{version},\"tables\":{tables},{more}}}")?;
+    answer(alloc, text.as_bytes())
+}
+
+/// Whether a catalog is read whose table has a name of so many bytes.
+fn takes_name_of(alloc: Global, count: usize) -> Result<bool, AllocError> {
+    let mut name = String::new(alloc);
+    for _ in 0..count {
+        name.push_str("n")?;
+    }
+    let tables = T.replace(alloc, "t\",", format!(in alloc; "{name}\",")?.as_str())?;
+    let text = read(alloc, "1", tables.as_str(), NO_MORE)?;
+    Ok(text.as_str() != REFUSED)
 }
 
 fn answer(alloc: Global, bytes: &[u8]) -> Result<String, AllocError> {
     match read_catalog(alloc, bytes) {
         Ok(table) => shown(alloc, &table),
-        Err(CatalogRefusal::OtherForm) => String::from_str(alloc, "other form"),
+        Err(CatalogRefusal::OtherForm) => String::from_str(alloc, REFUSED),
         Err(CatalogRefusal::OutOfMemory) => String::from_str(alloc, "out of memory"),
     }
 }
