@@ -60,11 +60,13 @@ reported words inside catalog query answer asks stage counted ending out err tel
     status_of (Err OtherForm) = status.Refused 2 0
     status_of (Err (ReadFault file)) = status.ReadFault file
     status_of (Err OutOfMemory) = status.OutOfMemory
+
     ending_of : (r : Result Rows Stop) → Tells r ending out err → ending ≡ status_of r
     ending_of (Ok rows) t = t.0
     ending_of (Err OtherForm) t = t.0
     ending_of (Err (ReadFault file)) t = t.0
     ending_of (Err OutOfMemory) t = t.0
+
     told : (r : Result Rows Stop) → Staged (asked words) inside r → Counted inside.before inside.after inside.broken r → Tells r ending out err → Report words inside (status_of r) out err
     told (Ok rows) s n t = (rows, s, refl, t.1, t.2, n)
     told (Err OtherForm) s n t = (s, refl, refl, t.1, t.2, n)

@@ -1,0 +1,4 @@
+mod Bytes
+mod Refusals
+mod Tokens
+mod Queries
