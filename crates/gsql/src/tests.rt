@@ -152,7 +152,7 @@ fn words_and_reads(rt: HostRuntime) -> Result<(), Fail> {
 #[test]
 fn writes(rt: HostRuntime) -> Result<(), Fail> {
     let alloc = rt.alloc();
-    let table: [(&[u64], usize, &[u8]); 2] = [(&[1], 4, b"a IN"), (&[], 0, b"")];
+    let table: [(&[u64], usize, &[u8]); 3] = [(&[1], 4, b"a IN"), (&[], 0, b""), (&[0], 64, b"")];
     for (fail_at, room, text) in table {
         let inputs = MemInputs::new(files(alloc, QUERY, TABLE)?, Items::new(alloc));
         let out = MemSink::new(alloc, calls(alloc, fail_at)?, room)?;
