@@ -1,5 +1,5 @@
 -- A part that can't be planned leaves the whole unplanned, for the same reason.
-use Rattle.std.proofs.Common.{Err, Result}
+use Rattle.std.proofs.Common.{Err}
 use Rattle.small_run.specs.declared.form.NoPlan.{NoPlan}
 use Rattle.small_run.specs.declared.form.NoPlan.TheVariants.{OtherForm, OutOfMemory}
 use Rattle.small_run.specs.Parts.{Made}

@@ -1,5 +1,5 @@
 -- A name in the scope of one table.
-use Rattle.std.proofs.Common.{◌≡◌, ℕ, zero, suc, ◌+◌, ◌<◌, Bool, true, false, not, ◌&&◌, List, [], ◌∷◌, ◌++◌, length, Option, Some, None, Ok, Err, refl, sym, ap, ◌∙◌, subst, arith, add-zero}
+use Rattle.std.proofs.Common.{◌≡◌, ℕ, zero, suc, ◌+◌, ◌<◌, Bool, true, false, not, ◌&&◌, List, [], ◌∷◌, ◌++◌, length, Some, None, Ok, refl, sym, ap, ◌∙◌, subst, arith, add-zero}
 use Rattle.std.specs.Prelude.{slice_get, slice_index_or, if◌then◌else◌}
 use Rattle.std.proofs.lemmas.List.{append-nil}
 use Rattle.sql_types.specs.declared.sql_type.Named.{Named}
@@ -12,12 +12,11 @@ use Rattle.sql_catalog.specs.declared.entries.TableDef.{TableDef}
 use Rattle.sql_rules.specs.declared.scope.Entry.{Entry}
 use Rattle.sql_rules.specs.declared.scope.What.TheVariants as what
 use Rattle.sql_rules.specs.declared.scope.Found.{Found}
-use Rattle.sql_rules.specs.declared.scope.Found.TheVariants.{Bound, Missing, Ambiguous}
-use Rattle.sql_rules.specs.Scopes.{is_named, is_range, places_from, ranges, columns, found_among, found, entry_at}
+use Rattle.sql_rules.specs.Scopes.{is_named, is_range, places_from, ranges, columns, found_among, found}
 use Rattle.sql_rules.specs.Tables.{column_entries, members_from}
-use Rattle.sql_rules.specs.Typing.{Checked, name_type, found_type, other}
+use Rattle.sql_rules.specs.Typing.{name_type, found_type, other}
 use Rattle.sql_rules.specs.Meaning.{Reads}
-use Rattle.small_run.specs.Parts.{Refused, scope_of, env_of, only, IsColumn, NamesColumn}
+use Rattle.small_run.specs.Parts.{scope_of, env_of, only, IsColumn, NamesColumn}
 use Rattle.small_run.proofs.Rows.{fits_length, value_at}
 
 -- ---- places in a list that is made of two

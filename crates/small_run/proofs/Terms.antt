@@ -1,5 +1,5 @@
 -- Expressions of the first form: names, literals, and a comparison of both.
-use Rattle.std.proofs.Common.{◌≡◌, ℕ, Bool, true, false, ◌&&◌, List, [], ◌∷◌, Option, Some, None, Ok, Err, refl, sym, ap, ◌∙◌, subst}
+use Rattle.std.proofs.Common.{◌≡◌, ℕ, Bool, true, false, ◌&&◌, List, [], ◌∷◌, Some, None, Ok, Err, refl, sym, ap, ◌∙◌, subst}
 use Rattle.std.specs.Prelude.{slice_get, slice_index_or, if◌then◌else◌}
 use Rattle.sql_types.specs.declared.sql_type.Named.{Named}
 use Rattle.sql_types.specs.declared.sql_type.SqlType.{SqlType, out-SqlType}
@@ -11,7 +11,7 @@ use Rattle.sql_types.specs.declared.value.Value.TheVariants as value
 use Rattle.sql_types.specs.declared.value.Value.TheVariants.{Null}
 use Rattle.sql_types.specs.Fits.{fits_row}
 use Rattle.sql_types.specs.Same.{equal}
-use Rattle.sql_types.specs.Outcome.{Outcome, Meaning, gives, Gather, goes_on, all_give}
+use Rattle.sql_types.specs.Outcome.{Outcome, Meaning, goes_on, all_give}
 use Rattle.sql_ast.specs.declared.clauses.Item.{Item}
 use Rattle.sql_ast.specs.declared.clauses.Item.TheVariants as item
 use Rattle.sql_ast.specs.declared.expr.Comparison.{Comparison}
@@ -29,17 +29,16 @@ use Rattle.sql_coerce.specs.declared.arg.Arg.{Arg}
 use Rattle.sql_coerce.specs.declared.arg.Kind.TheVariants as kind
 use Rattle.sql_catalog.specs.declared.entries.Entries.{Entries}
 use Rattle.sql_catalog.specs.declared.entries.TableDef.{TableDef}
-use Rattle.sql_rules.specs.Scopes.{found}
 use Rattle.sql_rules.specs.Tables.{Tables}
-use Rattle.sql_rules.specs.Typing.{Checked, Sight, ◌>>=◌, broken, other, literal, integer_type, integer_value, same_scalar, equal_types, equal_type, compare_type, is_bool, condition, name_type, place_of, is_name, is_literal, compares_name, if_built, implied_name, item_column, expr_layer, item_layer, filter_layer, typed, TypeExpr}
-use Rattle.sql_rules.specs.Meaning.{Env, Reads, truth, compare, expr_means, item_means, meant, MeansExpr}
+use Rattle.sql_rules.specs.Typing.{Checked, Sight, ◌>>=◌, broken, other, integer_type, integer_value, same_scalar, equal_type, compare_type, is_bool, condition, place_of, is_name, is_literal, compares_name, if_built, implied_name, item_column, expr_layer, item_layer, filter_layer, typed, TypeExpr}
+use Rattle.sql_rules.specs.Meaning.{Env, truth, expr_means, meant, MeansExpr}
 use Rattle.sql_rules.proofs.TypingLaws.{typed-expr}
 use Rattle.sql_rules.proofs.MeaningLaws.{meant-expr}
 use Rattle.small_run.specs.declared.parts.Literal.{Literal}
 use Rattle.small_run.specs.declared.parts.Test.{Test}
 use Rattle.small_run.specs.declared.parts.Picked.{Picked}
 use Rattle.small_run.specs.Plans.{one}
-use Rattle.small_run.specs.Parts.{Refused, scope_of, sight_of, env_of, IsColumn, NamesColumn, IsLiteral, Tests, Picks, is_plain}
+use Rattle.small_run.specs.Parts.{Refused, sight_of, env_of, IsColumn, NamesColumn, IsLiteral, Tests, Picks, is_plain}
 use Rattle.small_run.proofs.Rows.{one_of_each, fits_at}
 use Rattle.small_run.proofs.Names.{column_type, column_reads}
 

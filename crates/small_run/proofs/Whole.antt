@@ -5,11 +5,11 @@ use Rattle.std.specs.List.{list_all}
 use Rattle.std.specs.Bool.{MatchBool}
 use Rattle.sql_types.specs.declared.sql_type.Named.{Named}
 use Rattle.sql_types.specs.declared.sql_type.SqlType.{SqlType}
-use Rattle.sql_types.specs.declared.value.Value.{Value, out-Value}
+use Rattle.sql_types.specs.declared.value.Value.{Value}
 use Rattle.sql_types.specs.declared.value.Value.TheVariants.{Null}
 use Rattle.sql_types.specs.Fits.{fits_row}
 use Rattle.sql_types.specs.Same.{equal}
-use Rattle.sql_types.specs.Outcome.{Outcome, Meaning, gives, Gather, EachGives, goes_on, all_give}
+use Rattle.sql_types.specs.Outcome.{Outcome, Meaning, Gather, EachGives, goes_on, all_give}
 use Rattle.sql_types.proofs.Orders.{arranged_refl}
 use Rattle.sql_ast.specs.Words.{same_name}
 use Rattle.sql_ast.specs.declared.clauses.Name.{Name}
@@ -29,12 +29,11 @@ use Rattle.sql_ast.specs.declared.query.FromItem.{FromItem, out-FromItem}
 use Rattle.sql_ast.specs.declared.query.Joined.{Joined}
 use Rattle.sql_ast.specs.declared.query.Query.{Query, out-Query}
 use Rattle.sql_ast.specs.declared.query.Select.{Select, out-Select}
-use Rattle.sql_catalog.specs.declared.entries.Entries.{Entries}
 use Rattle.sql_catalog.specs.declared.entries.TableDef.{TableDef}
 use Rattle.sql_rules.specs.declared.scope.Entry.{Entry}
 use Rattle.sql_rules.specs.Tables.{Tables, table_values}
-use Rattle.sql_rules.specs.Typing.{Checked, Sight, ◌>>=◌, table_type, primary_layer, first_only, from_layer, plain_select, select_of, select_layer, term_layer, plain_query, query_layer, filter_layer, items_layer, inside, nothing_in_sight, typed, TypeFrom, TypePrimary, TypeTerm, TypeSelect, TypeQuery}
-use Rattle.sql_rules.specs.Meaning.{Row, Frame, Env, within, empty_env, truth, is_true, keep_if, kept, in_any_order, table_frames, table_means, primary_means, first_means, from_means, row_means, select_means_of, plain_select_means, select_means, term_means, plain_query_means, query_means, meant, MeansExpr, MeansFrom, MeansPrimary, MeansTerm, MeansSelect, MeansQuery}
+use Rattle.sql_rules.specs.Typing.{Checked, Sight, ◌>>=◌, table_type, primary_layer, first_only, plain_select, select_of, term_layer, plain_query, filter_layer, items_layer, inside, nothing_in_sight, typed, TypeFrom, TypePrimary, TypeTerm, TypeSelect, TypeQuery}
+use Rattle.sql_rules.specs.Meaning.{Row, Frame, Env, within, empty_env, truth, keep_if, kept, table_frames, table_means, primary_means, first_means, row_means, select_means_of, plain_select_means, term_means, plain_query_means, meant, MeansExpr, MeansPrimary, MeansTerm, MeansSelect}
 use Rattle.sql_rules.proofs.TypingLaws.{typed-primary, typed-from, typed-term, typed-select, typed-query}
 use Rattle.sql_rules.proofs.MeaningLaws.{meant-primary, meant-from, meant-term, meant-select, meant-query}
 use Rattle.small_run.specs.declared.form.NoPlan.{NoPlan}
@@ -43,7 +42,7 @@ use Rattle.small_run.specs.declared.form.Plan.{Plan}
 use Rattle.small_run.specs.declared.parts.Test.{Test}
 use Rattle.small_run.specs.declared.parts.Selected.{Selected}
 use Rattle.small_run.specs.Plans.{one, picked, passes, answers, Plans}
-use Rattle.small_run.specs.Parts.{Refused, scope_of, sight_of, env_of, is_table_name, is_select, is_empty, plain_parts, one_term, IsPrimary, IsTable, Tests, Selects, PlansText, MakesParts, MakesSelect, MakesQuery}
+use Rattle.small_run.specs.Parts.{Refused, scope_of, sight_of, is_table_name, is_select, is_empty, plain_parts, one_term, IsPrimary, IsTable, Tests, Selects, PlansText, MakesParts, MakesSelect, MakesQuery}
 use Rattle.small_run.proofs.Rows.{both, one_of_each}
 use Rattle.small_run.proofs.Terms.{refused_then}
 

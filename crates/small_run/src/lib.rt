@@ -12,6 +12,8 @@ mod picks;
 pub mod planner;
 pub mod runner;
 mod selects;
+#[cfg(test)]
+mod tests;
 mod views;
 
 pub use form::{NoPlan, Plan};

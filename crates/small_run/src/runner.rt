@@ -28,7 +28,7 @@ pub fn run(alloc: Global, plan: &Plan, rows: &Rows) -> Result<Rows, OutOfMemory>
 }
 
 /// Whether it is TRUE that the value at a place of a row equals the literal.
-fn passes(test: usize, literal: &Value, row: &Values) -> bool
+pub(crate) fn passes(test: usize, literal: &Value, row: &Values) -> bool
     ensures { result ≡ plans.passes test literal.now row.now }
 {
     match row.get(test) {
@@ -38,7 +38,11 @@ fn passes(test: usize, literal: &Value, row: &Values) -> bool
 }
 
 /// The values of a row at these places.
-fn picked(alloc: Global, slots: &Items<usize>, row: &Values) -> Result<Values, OutOfMemory>
+pub(crate) fn picked(
+    alloc: Global,
+    slots: &Items<usize>,
+    row: &Values,
+) -> Result<Values, OutOfMemory>
     ensures { IfOk result (λ values. values ≡ plans.picked slots.now row.now) }
 {
     let mut values = Items::new(alloc);

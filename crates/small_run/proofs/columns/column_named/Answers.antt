@@ -1,4 +1,4 @@
-use Rattle.std.proofs.Common.{◌≡◌, List, Option, ℕ, sym, ◌∙◌, ap, subst}
+use Rattle.std.proofs.Common.{List, Option, ℕ, sym, ◌∙◌, ap, subst}
 use Rattle.sql_types.specs.declared.sql_type.Named.{Named}
 use Rattle.sql_types.specs.declared.sql_type.SqlType.{SqlType}
 use Rattle.small_run.specs.Parts.{only, NamesColumn}

@@ -1,6 +1,6 @@
-use Rattle.std.proofs.Common.{◌≡◌, sym, ◌∙◌, ap}
+use Rattle.std.proofs.Common.{sym, ◌∙◌, ap}
 use Rattle.std.specs.Option.{option_to_list}
-use Rattle.small_run.proofs.Places.{named, first_found, passed_by, second_found, all_found}
+use Rattle.small_run.proofs.Places.{first_found, passed_by, second_found, all_found}
 use Rattle.small_run.proofs.columns.only_column.Goals as goal
 use Rattle.small_run.proofs.columns.only_column.Goals.{then-is_named+else-is_some, else-is_named}
 

@@ -1,4 +1,4 @@
-use Rattle.std.proofs.Common.{◌≡◌, ℤ, w32, w64, ap, ◌∙◌, sym, rules, arith}
+use Rattle.std.proofs.Common.{ℤ, w32, w64, ap, ◌∙◌, sym, rules, arith}
 use Rattle.std.proofs.lemmas.Int.{to_z-of_z}
 use mir.Val.{SFits}
 use Rattle.sql_types.specs.declared.value.Value.{out-Value}

@@ -1,4 +1,3 @@
-use Rattle.std.proofs.Common.{◌≡◌, ap, ◌∙◌, sym}
 use Rattle.small_run.proofs.Terms.{picks_column, item_unnamed, item_no_column, item_not_plain}
 use Rattle.small_run.proofs.picks.pick.Goals as goal
 

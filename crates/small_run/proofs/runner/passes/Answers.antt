@@ -1,4 +1,4 @@
-use Rattle.std.proofs.Common.{◌≡◌, false, Option, Bool, sym, ap, ◌∙◌}
+use Rattle.std.proofs.Common.{false, Option, Bool, sym, ap, ◌∙◌}
 use Rattle.std.specs.Prelude.{unwrap_or}
 use Rattle.small_run.proofs.Values.{passes_at, passes_past}
 use Rattle.small_run.proofs.runner.passes.Goals as goal
