@@ -1,5 +1,5 @@
 -- The type of a text, one construct at a time: each part is typed by its layer over its own parts.
-use Rattle.std.proofs.Common.{◌≡◌, ℕ, Bool, true, false, List, [], ◌∷◌, map, Option, None, Some, Ok, Err, refl, sym, ◌∙◌, ap}
+use Rattle.std.proofs.Common.{◌≡◌, ℕ, Bool, false, List, [], ◌∷◌, Option, None, Some, Ok, refl, sym, ◌∙◌, ap}
 use mathlib.Core.Path.{fun_ext}
 use Rattle.sql_types.specs.declared.sql_type.Named.{Named}
 use Rattle.sql_types.specs.declared.sql_type.SqlType.{SqlType}
@@ -24,7 +24,7 @@ use Rattle.sql_ast.specs.declared.expr.Expr.TheShapes.{former-Select-items}
 use Rattle.sql_coerce.specs.declared.arg.Arg.{Arg}
 use Rattle.sql_catalog.specs.declared.entries.Entries.{Entries}
 use Rattle.sql_rules.specs.declared.scope.Entry.{Entry}
-use Rattle.sql_rules.specs.Typing.{Checked, ◌>>=◌, Sight, Typings, given, expr_layer, primary_layer, from_layer, joined_layer, select_layer, term_layer, query_layer, items_layer, item_layer, filter_layer, inside, typed, TypeExpr, TypePrimary, TypeTerm, TypeFrom, TypeJoined, TypeQuery, TypeSelect}
+use Rattle.sql_rules.specs.Typing.{Checked, ◌>>=◌, Sight, given, expr_layer, primary_layer, from_layer, joined_layer, select_layer, term_layer, query_layer, items_layer, item_layer, filter_layer, inside, typed, TypeExpr, TypePrimary, TypeTerm, TypeFrom, TypeJoined, TypeQuery, TypeSelect}
 
 module _ (catalog : Entries) where
   abbrev AE : Type 0
