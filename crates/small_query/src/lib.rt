@@ -5,8 +5,6 @@ mod form;
 mod front;
 pub mod laws;
 mod split;
-#[cfg(test)]
-mod tests;
 
 ghost use Rattle.std.specs.Prelude.{IfOk, IfErr};
 ghost use Rattle.small_query.specs.Forms.{SmallText, Refused};
