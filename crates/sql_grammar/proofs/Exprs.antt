@@ -19,7 +19,7 @@ use Rattle.sql_ast.specs.declared.token.Lexeme.TheVariants as l
 use Rattle.sql_ast.specs.declared.words.Reserved.TheVariants as r
 use Rattle.sql_ast.specs.declared.words.Sign.TheVariants as s
 use Rattle.sql_ast.specs.declared.words.Word.TheVariants as w
-use Rattle.sql_ast.specs.Marks.{Tokens, Is, reserved, sign, word, named, integer, text, bytes, parameter, spelled, content, start_of, same_reserved, same_word, reserved_lexeme, word_lexeme, name_lexeme}
+use Rattle.sql_ast.specs.Marks.{Tokens, Is, reserved, sign, word, named, spelled, content, start_of, same_reserved, same_word, reserved_lexeme, word_lexeme, name_lexeme}
 use Rattle.sql_ast.specs.Trees.{function_lexeme, function_of, form_of, path, is_subquery, alone}
 use Rattle.sql_ast.specs.Grammar.{BasicOf, CommasOf, ExprOf, PartsOf, PostfixOf, QueryOf, basic_array, basic_bytes, basic_call, basic_date, basic_false, basic_integer, basic_name, basic_null, basic_parameter, basic_safe_call, basic_string, basic_true, bindings_none, commas_more, list_is, part_field, part_index, parts_more, parts_none, postfix_is}
 use Rattle.sql_grammar.specs.Ways.{Parser, Ended}
@@ -28,6 +28,7 @@ use Rattle.sql_grammar.specs.Exprs.{tells, told, opening_of, grouped, starred, p
 use Rattle.sql_grammar.proofs.Ways.{FoundTo, exact_until, Begun, start_front}
 use Rattle.sql_grammar.proofs.Marks.{the_reserved, the_sign, some_name, some_integer, some_text, some_bytes, some_parameter, a_form, tok, also, opt, opt_also, tok_opens, Taker, taker, says, AfterOf, after_of}
 use Rattle.sql_grammar.proofs.Solid.{solid_front, solid_basic, solid_postfix, no_expr, some_basic, some_postfix}
+use Rattle.sql_grammar.proofs.Starts.{begins_basic}
 use Rattle.sql_grammar.proofs.Levels.{From, begun_on, level, level_opens, no_word}
 use Rattle.sql_grammar.proofs.Calls.{Under, Bracketed, comma_expr_exact, comma_expr_opens, bracketed_exact, list_closed_to, call_body_exact, call_of_exact, bracketed_is}
 use Rattle.sql_grammar.proofs.Subqueries.{TermText, no_subquery_shuts, expr_term}
@@ -137,29 +138,6 @@ pub star_kept : (star : Bool) (a : Expr) (ps : List (Part Expr)) (t : Token) (u 
 star_kept star a ps t _ (opened_star {d = d} {u = u} {v = v} h l z i j) =
     subst (λ (n : ℕ). StarOf star (path a ps n, Some t) (u ++ (v ++ (d ∷ t ∷ [])))) (sym (start_front u (v ++ (d ∷ t ∷ [])) (solid_basic a u l)))
     (subst (λ (k : Tokens). StarOf star (path a ps (start_of u), Some t) k) (append_assoc u v (d ∷ t ∷ [])) (star_is h (postfix_is l z) i j))
-
--- the tokens with which a basic expression of each class begins
-abbrev pub begins_basic : BasicStart → Token → Bool
-begins_basic an_integer = integer
-begins_basic a_string = text
-begins_basic a_bytes = bytes
-begins_basic a_true = reserved r.True
-begins_basic a_false = reserved r.False
-begins_basic a_null = reserved r.Null
-begins_basic a_parameter = parameter
-begins_basic a_name = named
-begins_basic an_if = reserved r.If
-begins_basic a_bracket = sign s.OpenRound
-begins_basic a_case = reserved r.Case
-begins_basic a_cast = reserved r.Cast
-begins_basic an_extract = reserved r.Extract
-begins_basic a_grouping = reserved r.Grouping
-begins_basic an_exists = reserved r.Exists
-begins_basic an_array = reserved r.Array
-begins_basic a_square = sign s.OpenSquare
-begins_basic a_struct = reserved r.Struct
-begins_basic a_with = reserved r.With
-begins_basic no_basic = λ t. false
 
 module _ (n m : ℕ) (up : n ≤ m) (b b' : Below) (x : Under n b b') where
   -- ---- postfix

@@ -2,6 +2,7 @@ pub mod Ways
 pub mod Marks
 pub mod Words
 pub mod Solid
+pub mod Starts
 pub mod Levels
 pub mod Calls
 pub mod Subqueries
