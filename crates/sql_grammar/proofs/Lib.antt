@@ -10,6 +10,7 @@ pub mod Basics
 pub mod Exprs
 pub mod Chains
 pub mod Comparisons
+pub mod Prefixed
 pub mod Froms
 pub mod Groupings
 pub mod Selects
