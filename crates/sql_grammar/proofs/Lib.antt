@@ -14,3 +14,4 @@ pub mod Prefixed
 pub mod Froms
 pub mod Groupings
 pub mod Selects
+pub mod Clauses
