@@ -1,5 +1,5 @@
 -- The readers of the clauses of a SELECT, of a SELECT and of a term are exact.
-use Rattle.std.proofs.Common.{◌≡◌, ℕ, suc, ◌≤◌, Bool, List, [], ◌∷◌, ◌++◌, Option, Some, None, sym, ◌∙◌, ap, subst}
+use Rattle.std.proofs.Common.{◌≡◌, ℕ, suc, ◌≤◌, Bool, List, [], ◌∷◌, ◌++◌, length, Option, Some, None, sym, ◌∙◌, ap, subst, arith}
 use Rattle.std.proofs.lemmas.List.{append_assoc, append-nil}
 use Rattle.fronts.proofs.Firm.{opens}
 use Rattle.fronts.proofs.Exact.{Exact, bind, either, last, done, less, opens_bind}
@@ -9,6 +9,7 @@ use Rattle.sql_ast.specs.declared.expr.Expr.{Expr}
 use Rattle.sql_ast.specs.declared.grouping.Groups.{Groups}
 use Rattle.sql_ast.specs.declared.query.FromItem.{FromItem}
 use Rattle.sql_ast.specs.declared.query.Select.{Select}
+use Rattle.sql_ast.specs.declared.query.Term.{Term}
 use Rattle.sql_ast.specs.declared.query.Term.TheVariants as term_kind
 use Rattle.sql_ast.specs.declared.token.Token.{Token}
 use Rattle.sql_ast.specs.declared.words.Reserved.TheVariants as r
@@ -19,7 +20,8 @@ use Rattle.sql_ast.specs.Parts.{AsStructOf, SelectDistinctOf}
 use Rattle.sql_grammar.specs.Ways.{Ended}
 use Rattle.sql_grammar.specs.Exprs.{Below}
 use Rattle.sql_grammar.specs.Queries.{where_part, having_part, clauses, select_of, select_end, select_or_except, term_or_except, ItemsEnd, at_comma, at_except}
-use Rattle.sql_grammar.proofs.Marks.{the_reserved, the_sign, tok, also, opt, AfterOf, after_of}
+use Rattle.sql_grammar.proofs.Marks.{the_reserved, the_sign, is_example, tok, also, opt, AfterOf, after_of}
+use Rattle.sql_grammar.proofs.Solid.{some_query}
 use Rattle.sql_grammar.proofs.Calls.{Under}
 use Rattle.sql_grammar.proofs.Basics.{after_word, after_word_opens}
 use Rattle.sql_grammar.proofs.Froms.{select_distinct_exact, as_struct_exact, from_part_exact}
@@ -80,6 +82,16 @@ module _ (t : Token) (it : Is (reserved r.Select) t) (d : Bool) (p : Tokens) (ld
     end_exact (is, Some (at_except k)) u l = done (subst (λ (w : Tokens). Excepted SelectOf (select_of t d c is None None None None, Some k) (t ∷ (p ++ (q ++ w)))) (sym (append-nil u)) (except_listed is k u l))
 
 -- ---- terms
+
+solid_select : (a : Select) (u : Tokens) → SelectOf a u → 1 ≤ length u
+solid_select _ _ (select_is i d c l m f w g h) = omega arith
+
+pub solid_term : (a : Term) (u : Tokens) → TermOf a u → 1 ≤ length u
+solid_term _ _ (term_select {u = u} l) = solid_select _ u l
+solid_term _ _ (term_query i l j) = omega arith
+
+pub some_term : (a : Term) × (u : Tokens) × TermOf a u
+some_term = (_, _, term_query (is_example (the_sign s.OpenRound)) (some_query.2) (is_example (the_sign s.CloseRound)))
 
 term_from : (y : Select × Option Token) (u : Tokens) → Excepted SelectOf y u → Excepted TermOf (term_kind.Select y.0, y.1) u
 term_from _ _ (plainly l) = plainly (term_select l)

@@ -15,3 +15,4 @@ pub mod Froms
 pub mod Groupings
 pub mod Selects
 pub mod Clauses
+pub mod SetTerms
