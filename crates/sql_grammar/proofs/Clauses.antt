@@ -3,19 +3,21 @@ use Rattle.std.proofs.Common.{◌≡◌, ℕ, suc, ◌≤◌, Bool, List, [], �
 use Rattle.std.proofs.lemmas.List.{append_assoc, append-nil}
 use Rattle.fronts.proofs.Firm.{opens}
 use Rattle.fronts.proofs.Exact.{Exact, bind, either, last, done, less, opens_bind}
+use Rattle.sql_types.specs.declared.kinds.SetKind.TheVariants as set
 use Rattle.sql_ast.specs.declared.clauses.FilterPart.{FilterPart}
 use Rattle.sql_ast.specs.declared.clauses.Item.{Item}
 use Rattle.sql_ast.specs.declared.expr.Expr.{Expr}
 use Rattle.sql_ast.specs.declared.grouping.Groups.{Groups}
 use Rattle.sql_ast.specs.declared.query.FromItem.{FromItem}
 use Rattle.sql_ast.specs.declared.query.Select.{Select}
+use Rattle.sql_ast.specs.declared.query.Body.{Body}
 use Rattle.sql_ast.specs.declared.query.Term.{Term}
 use Rattle.sql_ast.specs.declared.query.Term.TheVariants as term_kind
 use Rattle.sql_ast.specs.declared.token.Token.{Token}
 use Rattle.sql_ast.specs.declared.words.Reserved.TheVariants as r
 use Rattle.sql_ast.specs.declared.words.Sign.TheVariants as s
 use Rattle.sql_ast.specs.Marks.{Tokens, Is, reserved}
-use Rattle.sql_ast.specs.Grammar.{ExprOf, FromPartOf, GroupByOf, HavingOf, SelectOf, TermOf, WhereOf, from_none, group_none, having_is, having_none, select_is, term_query, term_select, where_is, where_none}
+use Rattle.sql_ast.specs.Grammar.{BodyOf, body_is, set_terms_none, ExprOf, FromPartOf, GroupByOf, HavingOf, SelectOf, TermOf, WhereOf, from_none, group_none, having_is, having_none, select_is, term_query, term_select, where_is, where_none}
 use Rattle.sql_ast.specs.Parts.{AsStructOf, SelectDistinctOf}
 use Rattle.sql_grammar.specs.Ways.{Ended}
 use Rattle.sql_grammar.specs.Exprs.{Below}
@@ -92,6 +94,9 @@ solid_term _ _ (term_query i l j) = omega arith
 
 pub some_term : (a : Term) × (u : Tokens) × TermOf a u
 some_term = (_, _, term_query (is_example (the_sign s.OpenRound)) (some_query.2) (is_example (the_sign s.CloseRound)))
+
+pub some_body : (a : Body Term) × (u : Tokens) × BodyOf a u
+some_body = (_, _, body_is (some_term.2) (set_terms_none {k = set.UnionAll}))
 
 term_from : (y : Select × Option Token) (u : Tokens) → Excepted SelectOf y u → Excepted TermOf (term_kind.Select y.0, y.1) u
 term_from _ _ (plainly l) = plainly (term_select l)

@@ -16,3 +16,4 @@ pub mod Groupings
 pub mod Selects
 pub mod Clauses
 pub mod SetTerms
+pub mod Queries
