@@ -17,3 +17,4 @@ pub mod Selects
 pub mod Clauses
 pub mod SetTerms
 pub mod Queries
+pub mod Knot
