@@ -54,42 +54,42 @@ ctes_at _ _ ls v (after_of i l) z = cte_commas_more i l z
 ctes_found : (t : Token) → Is (reserved r.With) t → (a : Cte Query) (u : Tokens) → CteOf a u → (xs : List (Cte Query)) (v : Tokens) → Found CteCommasOf (a ∷ []) xs v → CtesOf xs (t ∷ (u ++ v))
 ctes_found t it a u l xs v (ls, z, f) = subst (λ (q : List (Cte Query)). CtesOf q (t ∷ (u ++ v))) (sym f) (ctes_are it l z)
 
--- ---- behind the CTEs p of a query
+-- ---- behind the tokens p of CTEs
+
+-- what follows the tokens u of a first term, where the query and the term begin at these places
+abbrev EndOf : Tokens → Tokens → ℕ → ℕ → Language Token Query
+EndOf p u place from q v = place ≡ start_of (p ++ u) → from ≡ start_of u → QueryOf q (p ++ (u ++ v))
+
+-- a body and what follows it, where the query begins at this place
+abbrev RestOf : Tokens → ℕ → Language Token Query
+RestOf p place q v = (1 ≤ length v) × (place ≡ start_of (p ++ v) → QueryOf q (p ++ v))
 
 module _ (cs : List (Cte Query)) (p : Tokens) (lc : CtesOf cs p) where
-  -- queries behind the first term, where the query and the term begin at these places
-  abbrev EndOf : Tokens → ℕ → ℕ → Language Token Query
-  EndOf u place from q v = place ≡ start_of (p ++ u) → from ≡ start_of u → QueryOf q (p ++ (u ++ v))
-
   end_from : (a : Term) (u : Tokens) → 1 ≤ length u → (ls : List (SetTerm Term)) (v : Tokens) → BodyOf (record { first = a; rest = ls; place = start_of u }) (u ++ v) → (ss : List (Sort Expr)) (w : Tokens) → OrderOf ss w
-      → (k : Option (LimitPart Expr)) (y : Tokens) → LimitOf k y → (place from : ℕ) → EndOf u place from (roll-Query (record { ctes = cs; body = record { first = a; rest = ls; place = from }; order = ss; limit = k; place = place })) (v ++ (w ++ y))
+      → (k : Option (LimitPart Expr)) (y : Tokens) → LimitOf k y → (place from : ℕ) → EndOf p u place from (roll-Query (record { ctes = cs; body = record { first = a; rest = ls; place = from }; order = ss; limit = k; place = place })) (v ++ (w ++ y))
   end_from a u solid ls v l ss w lo k y lk place from h g =
       subst (λ (j : ℕ). QueryOf (roll-Query (record { ctes = cs; body = record { first = a; rest = ls; place = from }; order = ss; limit = k; place = j })) (p ++ (u ++ (v ++ (w ++ y))))) (start_behind p u v solid ∙ sym h)
       (subst (λ (j : ℕ). QueryOf (roll-Query (record { ctes = cs; body = record { first = a; rest = ls; place = j }; order = ss; limit = k; place = start_of (p ++ (u ++ v)) })) (p ++ (u ++ (v ++ (w ++ y))))) (sym g)
       (subst (λ (z : Tokens). QueryOf (roll-Query (record { ctes = cs; body = record { first = a; rest = ls; place = start_of u }; order = ss; limit = k; place = start_of (p ++ (u ++ v)) })) (p ++ z)) (append_assoc u v (w ++ y)) (query_is lc l lo lk)))
 
-  -- a body and what follows it, where the query begins at this place
-  abbrev RestOf : ℕ → Language Token Query
-  RestOf place q v = (1 ≤ length v) × (place ≡ start_of (p ++ v) → QueryOf q (p ++ v))
-
-  some_rest : (place : ℕ) → (q : Query) × (v : Tokens) × RestOf place q v
+  some_rest : (place : ℕ) → (q : Query) × (v : Tokens) × RestOf p place q v
   some_rest place = (_, some_body.1 ++ [], (solid_front (some_body.1) [] (solid_body _ _ some_body.2), λ h. query_is lc some_body.2 order_none limit_none))
 
   module _ (n m : ℕ) (up : n ≤ m) (b b' : Below) (x : Under n b b') where
-    end_exact : (y : Term × Option Token) (u : Tokens) → Excepted TermOf y u → (place from : ℕ) → Exact (suc n) (EndOf u place from) (query_end n b place cs from y.0 y.1) (query_end m b' place cs from y.0 y.1)
+    end_exact : (y : Term × Option Token) (u : Tokens) → Excepted TermOf y u → (place from : ℕ) → Exact (suc n) (EndOf p u place from) (query_end n b place cs from y.0 y.1) (query_end m b' place cs from y.0 y.1)
     unfolding query_end
     end_exact y u l place from = bind (sets_exact n m up b b' x y u l) (λ ls v z. bind (order_exact n m up b b' x) (λ ss w lo. last (λ k. roll-Query (record { ctes = cs; body = record { first = y.0; rest = ls; place = from }; order = ss; limit = k; place = place })) (limit_exact n)
         (λ k j lk. end_from y.0 u (excepted_solid TermOf solid_term y u l) ls v z ss w lo k j lk place from)))
 
-    body_at : (place k : ℕ) → Exact (suc n) (Begun (RestOf place) k) (term_or_except n b >>= (λ y. query_end n b place cs k y.0 y.1)) (term_or_except m b' >>= (λ y. query_end m b' place cs k y.0 y.1))
+    body_at : (place k : ℕ) → Exact (suc n) (Begun (RestOf p place) k) (term_or_except n b >>= (λ y. query_end n b place cs k y.0 y.1)) (term_or_except m b' >>= (λ y. query_end m b' place cs k y.0 y.1))
     body_at place k = bind (term_exact n m up b b' x) (λ y u l. let solid = excepted_solid TermOf solid_term y u l in into (end_exact y u l place k) (λ q v z. record {
       solid = solid_front u v solid;
       spells = λ h. (solid_front u v solid, λ g. z (g ∙ start_behind p u v solid) (h ∙ start_front u v solid));
     }))
 
-    body_exact : (place : ℕ) → Exact (suc n) (RestOf place) (query_body n b place cs) (query_body m b' place cs)
+    body_exact : (place : ℕ) → Exact (suc n) (RestOf p place) (query_body n b place cs) (query_body m b' place cs)
     unfolding query_body
-    body_exact place = exact_starting (RestOf place) (some_rest place) (λ q h. let e = h.0 in omega arith) _ _ (suc n) (body_at place)
+    body_exact place = exact_starting (RestOf p place) (some_rest place) (λ q h. let e = h.0 in omega arith) _ _ (suc n) (body_at place)
 
 -- ---- queries
 
@@ -106,7 +106,7 @@ module _ (n m : ℕ) (up : n ≤ m) (b b' : Below) (x : Under n b b') where
   unfolding comma_cte
   comma_cte_opens t h = after_opens (the_sign s.Comma) cte_exact t h
 
-  with_from : (t : Token) (u v : Tokens) (q : Query) (w : Tokens) → (1 ≤ length w) × (t.start ≡ start_of ((t ∷ (u ++ v)) ++ w) → QueryOf q ((t ∷ (u ++ v)) ++ w)) → QueryOf q (t ∷ (u ++ (v ++ w)))
+  with_from : (t : Token) (u v : Tokens) (q : Query) (w : Tokens) → RestOf (t ∷ (u ++ v)) t.start q w → QueryOf q (t ∷ (u ++ (v ++ w)))
   with_from t u v q w z = subst (λ (y : Tokens). QueryOf q (t ∷ y)) (append_assoc u v w) (z.1 refl)
 
   -- behind the word WITH

@@ -59,7 +59,8 @@ module _ {C A E : Type 0} (V : E → Type 0) (L : E → Language C (A × Option 
 
   pub exact_following : (n m i : ℕ) → n ≤ m → i ≤ n → ((e : E) → V e → Exact i (L e) (item e) (item' e)) → (found : List A) (e : E) → V e → Exact i (Found (LS e) found) (following item n found (Some e)) (following item' m found (Some e))
   unfolding following
-  exact_following zero m i up le x found e ok = let y : Exact 0 (Found (LS e) found) (following item zero found (Some e)) (following item' m found (Some e)) = exact_exhausted (Found (LS e) found) _ _ 0 (same_exact (λ f k. record { near = (x f k).far; far = (x f k).far; firm = (x f k).firm }) m found e ok) in let is : 0 ≡ i = omega arith in subst (λ (k : ℕ). Exact k (Found (LS e) found) (following item zero found (Some e)) (following item' m found (Some e))) is y
+  exact_following zero m i up le x found e ok = exact_lower (Found (LS e) found) (following item zero found (Some e)) (following item' m found (Some e)) i 0 (omega arith)
+      (exact_exhausted (Found (LS e) found) _ _ 0 (same_exact (λ f k. record { near = (x f k).far; far = (x f k).far; firm = (x f k).firm }) m found e ok))
   exact_following (suc n) zero i up le x found e ok = absurd (omega arith)
   exact_following (suc n) (suc m) i up le x found e ok = exact_bind i (i - 1) (L e) (Found (LS e) found) (item e) (item' e) (λ a. following item n (found ++ a.0 ∷ []) a.1) (λ a. following item' m (found ++ a.0 ∷ []) a.1) (λ a u l. let s = solid e a u l in omega arith)
       (λ a u l. next_exact V L LS item item' ends more right n m (i - 1) (λ more f ok. exact_following n m (i - 1) (omega arith) (omega arith) (λ e ok. exact_lower (L e) (item e) (item' e) (i - 1) i (omega arith) (x e ok)) more f ok) found e ok a u l) (x e ok)
