@@ -5,7 +5,7 @@ use Rattle.sql_types.specs.declared.sql_type.SqlType.{SqlType, out-SqlType}
 use Rattle.sql_types.specs.declared.sql_type.SqlType.TheOpen as t
 use Rattle.sql_types.specs.declared.value.Value.{Value, out-Value}
 use Rattle.sql_types.specs.declared.value.Value.TheOpen as v
-use Rattle.sql_ast.specs.Spelling.{quote_text}
+use Rattle.sql_names.specs.Spelling.{quote_text}
 
 -- The types that a table may have so far. The others are spelled when tables can have them.
 abbrev pub scalar_text : t.SqlType-F SqlType → List ℕ

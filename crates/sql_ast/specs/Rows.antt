@@ -1,20 +1,11 @@
 -- The text of an answer's rows.
 use Rattle.std.specs.Prelude.{ℕ, List, [], ◌∷◌, ◌++◌, map, length, codes, decimal, Option, None, Some}
+use Rattle.sql_names.specs.Commas.{joined}
 use Rattle.sql_types.specs.declared.sql_type.Named.{Named}
 use Rattle.sql_types.specs.declared.sql_type.SqlType.{SqlType}
 use Rattle.sql_types.specs.declared.value.Value.{Value}
-use Rattle.sql_ast.specs.Spelling.{quote_name}
+use Rattle.sql_names.specs.Spelling.{quote_name}
 use Rattle.sql_ast.specs.Literals.{type_text, literal_text}
-
--- each piece with a comma and a space before it
-abbrev pub continued : List (List ℕ) → List ℕ
-continued [] = []
-continued (piece ∷ pieces) = (codes ", " ++ piece) ++ continued pieces
-
--- the pieces, joined by a comma and a space
-abbrev pub joined : List (List ℕ) → List ℕ
-joined [] = []
-joined (piece ∷ pieces) = piece ++ continued pieces
 
 -- a column's name and a space, where it has a name, and its type
 abbrev pub column_text : Option (List ℕ) → SqlType → List ℕ

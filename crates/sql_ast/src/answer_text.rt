@@ -1,5 +1,6 @@
 //! The text of an answer's rows.
 ghost use Rattle.std.specs.Prelude.{◌≡◌, ◌++◌, ◌∷◌, [], OnOk, IfOk, map, codes};
+ghost use Rattle.sql_names.specs.Commas.{continued};
 ghost use Rattle.sql_ast.specs.Rows as text;
 ghost use Rattle.sql_ast.specs.Literals.{literal_text};
 
@@ -19,7 +20,7 @@ fn write_column(out: &mut Vec<u8>, column: &Column) -> Result<(), AllocError>
 }
 
 fn write_more_columns(out: &mut Vec<u8>, columns: &[Column]) -> Result<(), AllocError>
-    ensures { OnOk result (out.new.items ≡ out.old.items ++ text.continued (map (λ c. text.column_text c.name c.ty) columns.now)) }
+    ensures { OnOk result (out.new.items ≡ out.old.items ++ continued (map (λ c. text.column_text c.name c.ty) columns.now)) }
 {
     for column in columns {
         out.extend_from_slice(b", ")?;
@@ -40,7 +41,7 @@ fn write_header(out: &mut Vec<u8>, columns: &[Column]) -> Result<(), AllocError>
 }
 
 fn write_more_values(out: &mut Vec<u8>, values: &[Value]) -> Result<(), AllocError>
-    ensures { OnOk result (out.new.items ≡ out.old.items ++ text.continued (map literal_text values.now)) }
+    ensures { OnOk result (out.new.items ≡ out.old.items ++ continued (map literal_text values.now)) }
 {
     for value in values {
         out.extend_from_slice(b", ")?;

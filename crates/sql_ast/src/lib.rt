@@ -26,10 +26,11 @@ pub use expr::{
     Comparison, Expr, IndexForm, IsTest, Link, Operator, Part, Prefix, Quantifier, Signed,
 };
 pub use grouping::{Cube, CubeKind, GroupItem, GroupSet, Groups};
-pub use naming::{grammar_word, reserved_word, same_name, sign_of};
+pub use naming::{grammar_word, sign_of};
 pub use pieces::{Class, Content, LiteralPrefix, Mark, Piece, Quote, Quotes, Shape};
 pub use query::{Body, Cte, FromItem, JoinWord, Joined, Primary, Query, Select, SetTerm, Term};
 pub use refusal::Refusal;
+pub use sql_names::{Reserved, reserved_word, same_name};
 pub use token::{Lexeme, Token};
 pub use type_spelling::{TypeField, TypeSpelling};
-pub use words::{Reserved, Sign, Word};
+pub use words::{Sign, Word};

@@ -1,15 +1,9 @@
-//! Spellings, against the rules of names, literals and rows.
-use crate::spelling::{write_literal, write_name, write_type};
-use crate::{Reserved, Word, grammar_word, reserved_word, rows_text, same_name};
+//! Words, and spellings against the rules of literals and rows.
+use crate::spelling::{write_literal, write_type};
+use crate::{Sign, Word, grammar_word, rows_text, sign_of};
 use sql_types::{Items, Named, Rows, SqlType, Text, Value};
 use std::alloc::{AllocError, Global};
 use std::test::Fail;
-
-fn name_text(alloc: Global, name: &str) -> Result<Vec<u8>, AllocError> {
-    let mut out = Vec::new(alloc);
-    write_name(&mut out, &Text::copy_of(alloc, name)?)?;
-    Ok(out)
-}
 
 fn literal_text(alloc: Global, value: Value) -> Result<Vec<u8>, AllocError> {
     let mut out = Vec::new(alloc);
@@ -18,22 +12,9 @@ fn literal_text(alloc: Global, value: Value) -> Result<Vec<u8>, AllocError> {
 }
 
 #[test]
-fn names(rt: HostRuntime) -> Result<(), Fail> {
-    let alloc = rt.alloc();
-    let table: [(&str, &[u8]); 5] = [
-        ("a_1", b"a_1"),
-        ("select", b"`select`"),
-        ("date", b"date"),
-        ("a b", b"`a b`"),
-        ("a`\"\\", b"`a\\`\"\\\\`"),
-    ];
-    for (name, text) in table {
-        assert_eq!(rt; name_text(alloc, name)?.as_slice(), text);
-    }
-    assert_eq!(rt; reserved_word(b"Select"), Some(Reserved::Select));
-    assert_eq!(rt; reserved_word(b"pivot"), None);
+fn words(rt: HostRuntime) -> Result<(), Fail> {
     assert_eq!(rt; grammar_word(b"pivot"), Some(Word::Pivot));
-    assert!(rt; same_name(&Text::copy_of(alloc, "aB")?, &Text::copy_of(alloc, "Ab")?));
+    assert_eq!(rt; sign_of(b"->"), Some(Sign::Arrow));
     Ok(())
 }
 

@@ -2,8 +2,9 @@
 use Rattle.std.proofs.Common.{◌++◌, List, ℕ, map, refl, ap, ◌∙◌, append_assoc, codes, arith}
 use Rattle.sql_types.specs.declared.sql_type.Named.{Named}
 use Rattle.sql_types.specs.declared.sql_type.SqlType.{SqlType}
-use Rattle.sql_ast.specs.Rows.{continued, column_text}
-use Rattle.sql_ast.proofs.Written.{InPieces, wrote_more}
+use Rattle.sql_names.specs.Commas.{continued}
+use Rattle.sql_ast.specs.Rows.{column_text}
+use Rattle.sql_names.proofs.Written.{InPieces, wrote_more}
 use Rattle.sql_ast.proofs.answer_text.write_more_columns.Goals as goal
 
 columns_in_pieces : InPieces (λ (columns : List (Named SqlType)). continued (map (λ c. column_text c.name c.ty) columns)) (λ c. codes ", " ++ column_text c.name c.ty)

@@ -1,9 +1,9 @@
 -- One value more is written, behind a comma.
 use Rattle.std.proofs.Common.{◌++◌, List, ℕ, map, refl, ap, ◌∙◌, append_assoc, codes, arith}
 use Rattle.sql_types.specs.declared.value.Value.{Value}
-use Rattle.sql_ast.specs.Rows.{continued}
+use Rattle.sql_names.specs.Commas.{continued}
 use Rattle.sql_ast.specs.Literals.{literal_text}
-use Rattle.sql_ast.proofs.Written.{InPieces, wrote_more}
+use Rattle.sql_names.proofs.Written.{InPieces, wrote_more}
 use Rattle.sql_ast.proofs.answer_text.write_more_values.Goals as goal
 
 values_in_pieces : InPieces (λ (values : List Value). continued (map literal_text values)) (λ x. codes ", " ++ literal_text x)

@@ -1,7 +1,7 @@
 -- How names and texts are spelled in what the program prints.
 use Rattle.std.specs.Prelude.{ℕ, ◌+◌, ◌/◌, ◌%◌, Bool, false, ◌==◌, ◌&&◌, ◌||◌, nat_lt, nat_le, if◌then◌else◌, is_none, List, [], ◌∷◌, ◌++◌}
 use Rattle.std.specs.List.{list_all}
-use Rattle.sql_ast.specs.Words.{reserved_of}
+use Rattle.sql_names.specs.Words.{reserved_of}
 
 -- a digit of base 16, in lower case
 abbrev pub hex_digit : ℕ → ℕ

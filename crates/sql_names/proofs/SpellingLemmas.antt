@@ -1,7 +1,7 @@
 -- Escapes of one text after another.
 use Rattle.std.proofs.Common.{◌≡◌, ℕ, ◌+◌, ◌<◌, List, [], ◌∷◌, ◌++◌, length, take, get_or, refl, sym, ◌∙◌, ap, append_assoc}
 use Rattle.std.proofs.lemmas.List.{take_more}
-use Rattle.sql_ast.specs.Spelling.{escaped, escapes}
+use Rattle.sql_names.specs.Spelling.{escaped, escapes}
 
 append_nil : (xs : List ℕ) → xs ++ [] ≡ xs
 append_nil [] = refl

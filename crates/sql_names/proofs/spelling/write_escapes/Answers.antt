@@ -1,8 +1,8 @@
 -- One byte more is written.
 use Rattle.std.proofs.Common.{◌++◌, List, ℕ, take, get_or, sym, ◌∙◌, ap, append_assoc, arith}
-use Rattle.sql_ast.specs.Spelling.{escaped, escapes}
-use Rattle.sql_ast.proofs.SpellingLemmas.{escapes_take}
-use Rattle.sql_ast.proofs.spelling.write_escapes.Goals as goal
+use Rattle.sql_names.specs.Spelling.{escaped, escapes}
+use Rattle.sql_names.proofs.SpellingLemmas.{escapes_take}
+use Rattle.sql_names.proofs.spelling.write_escapes.Goals as goal
 
 pub loop-byte-preserved : goal.loop-byte-preserved
 loop-byte-preserved c =

@@ -1,0 +1,12 @@
+//! Names: when two are the same, which words are reserved, and how names and texts are spelled.
+#![tactic(auto)]
+
+pub mod naming;
+pub mod spelling;
+#[cfg(test)]
+mod tests;
+pub mod words;
+
+pub use naming::{reserved_word, same_letters, same_name};
+pub use spelling::{is_plain_name, write_name, write_text};
+pub use words::Reserved;
