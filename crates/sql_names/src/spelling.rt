@@ -1,6 +1,7 @@
 //! How names and texts are spelled in what the program prints.
 ghost use Rattle.std.specs.Prelude.{◌≡◌, ◌++◌, ◌<◌, ◌∷◌, [], OnOk};
 ghost use Rattle.std.specs.List.{list_all};
+ghost use Rattle.sql_names.specs.Commas.{separator};
 ghost use Rattle.sql_names.specs.Spelling as spell;
 
 use crate::naming::reserved_word;
@@ -110,5 +111,16 @@ pub fn write_name(out: &mut Vec<u8>, name: &Text) -> Result<(), AllocError>
         out.extend_from_slice(name.as_bytes())
     } else {
         write_quoted(out, b'`', name.as_bytes())
+    }
+}
+
+/// Writes what stands before a piece of a list that has so many before it: nothing, or a comma and a space.
+pub fn write_separator(out: &mut Vec<u8>, place: usize) -> Result<(), AllocError>
+    ensures { OnOk result (out.new.items ≡ out.old.items ++ separator place) }
+{
+    if place == 0 {
+        Ok(())
+    } else {
+        out.extend_from_slice(b", ")
     }
 }

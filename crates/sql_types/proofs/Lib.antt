@@ -1,3 +1,4 @@
 pub mod OutcomeLaws
 pub mod Orders
 pub mod Opens
+pub mod TypeTextLaws

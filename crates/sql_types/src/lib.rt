@@ -5,6 +5,7 @@ pub mod copies;
 pub mod fault;
 pub mod kinds;
 pub mod rows;
+pub mod spelling;
 pub mod sql_type;
 #[cfg(test)]
 mod tests;
@@ -15,5 +16,6 @@ pub use fault::{CallFault, FaultKind};
 pub use kinds::{JoinKind, SetKind, SortItem, SortItems};
 pub use lists::{Boxed, Bytes, Items, ListType, OutOfMemory, Text};
 pub use rows::{Answer, Param, Params, Rows, Tables};
+pub use spelling::{type_text, write_columns, write_type};
 pub use sql_type::{Column, Columns, Field, Fields, Named, SqlType, Types};
 pub use value::{Value, Values};
