@@ -1,15 +1,9 @@
 //! Words, and spellings against the rules of literals and rows.
-use crate::spelling::{write_literal, write_type};
+use crate::spelling::literal_text;
 use crate::{Sign, Word, grammar_word, rows_text, sign_of};
-use sql_types::{Items, Named, Rows, SqlType, Text, Value};
-use std::alloc::{AllocError, Global};
+use sql_types::{Items, Named, Rows, SqlType, Text, Value, Values};
+use std::alloc::Global;
 use std::test::Fail;
-
-fn literal_text(alloc: Global, value: Value) -> Result<Vec<u8>, AllocError> {
-    let mut out = Vec::new(alloc);
-    write_literal(&mut out, &value)?;
-    Ok(out)
-}
 
 #[test]
 fn words(rt: HostRuntime) -> Result<(), Fail> {
@@ -18,25 +12,63 @@ fn words(rt: HostRuntime) -> Result<(), Fail> {
     Ok(())
 }
 
+fn text_value(alloc: Global, text: &str) -> Result<Value, Fail> {
+    Ok(Value::Text(Text::copy_of(alloc, text)?))
+}
+
+fn bytes_value(alloc: Global, bytes: &[u8]) -> Result<Value, Fail> {
+    Ok(Value::Bytes(Items::from_slice(alloc, bytes)?))
+}
+
+fn two(alloc: Global, first: Value, second: Value) -> Result<Values, Fail> {
+    let mut values = Items::new(alloc);
+    values.push(first)?;
+    values.push(second)?;
+    Ok(values)
+}
+
 #[test]
-fn literals_and_rows(rt: HostRuntime) -> Result<(), Fail> {
+fn values_by_their_text(rt: HostRuntime) -> Result<(), Fail> {
     let alloc = rt.alloc();
-    let text = literal_text(
-        alloc,
-        Value::Text(Text::copy_of(alloc, "a\"\n\u{1f}\u{e9}")?),
-    )?;
-    assert_eq!(rt; text.as_slice(), b"\"a\\\"\\n\\x1f\xc3\xa9\"".as_slice());
-    assert_eq!(rt;
-        literal_text(alloc, Value::Int(-7))?.as_slice(),
-        b"-7".as_slice()
-    );
-    assert_eq!(rt;
-        literal_text(alloc, Value::Null)?.as_slice(),
-        b"NULL".as_slice()
-    );
-    let mut ty = Vec::new(alloc);
-    write_type(&mut ty, &SqlType::Text)?;
-    assert_eq!(rt; ty.as_slice(), b"STRING".as_slice());
+    let pair = two(alloc, Value::Int(1), text_value(alloc, "a")?)?;
+    let table: [(Value, &[u8]); 14] = [
+        (Value::Null, b"NULL"),
+        (Value::Bool(true), b"TRUE"),
+        (Value::Bool(false), b"FALSE"),
+        (Value::Int(-7), b"-7"),
+        (Value::Int(i64::MIN), b"-9223372036854775808"),
+        (Value::Uint(u64::MAX), b"18446744073709551615"),
+        (
+            text_value(alloc, "a\"\n\u{1f}\u{e9}")?,
+            b"\"a\\\"\\n\\x1f\xc3\xa9\"",
+        ),
+        (bytes_value(alloc, b"")?, b"b\"\""),
+        (bytes_value(alloc, b"a '\"\\~")?, b"b\"a '\\\"\\\\~\""),
+        (
+            bytes_value(alloc, b"\n\x00\x7f\xab\xff")?,
+            b"b\"\\x0a\\x00\\x7f\\xab\\xff\"",
+        ),
+        (Value::Array(Items::new(alloc)), b"[]"),
+        (
+            Value::Array(two(alloc, Value::Int(1), Value::Int(2))?),
+            b"[1, 2]",
+        ),
+        (
+            Value::Array(two(alloc, Value::Null, Value::Struct(pair))?),
+            b"[NULL, STRUCT(1, \"a\")]",
+        ),
+        (Value::Struct(Items::new(alloc)), b"STRUCT()"),
+    ];
+    for (value, text) in &table {
+        let literal = literal_text(alloc, value)?;
+        assert_eq!(rt; literal.as_slice(), *text);
+    }
+    Ok(())
+}
+
+#[test]
+fn rows(rt: HostRuntime) -> Result<(), Fail> {
+    let alloc = rt.alloc();
     let mut columns = Items::new(alloc);
     columns.push(Named {
         name: Some(Text::copy_of(alloc, "k")?),

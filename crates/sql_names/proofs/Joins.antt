@@ -28,8 +28,8 @@ pub wrote_joined : {X : Type 0} (text : X → List ℕ) (xs : List X) (i : ℕ) 
 wrote_joined text xs i y within at start before after wrote was =
     wrote ∙ ap (λ r. r ++ (separator i ++ text y)) was ∙ append_assoc start (joined (map text (take i xs))) (separator i ++ text y)
     ∙ ap
-        (λ r. start ++ r)
-        (ap (λ n. joined (map text (take i xs)) ++ (separator n ++ text y)) (sym (length-take-le i xs (omega arith)))
-        ∙ sym (joined-last text (take i xs) y)
-        ∙ ap (λ z. joined (map text (take i xs ++ z ∷ []))) at
-        ∙ sym (ap (λ l. joined (map text l)) (take_more xs i y within)))
+    (λ r. start ++ r)
+    (ap (λ n. joined (map text (take i xs)) ++ (separator n ++ text y)) (sym (length-take-le i xs (omega arith)))
+    ∙ sym (joined-last text (take i xs) y)
+    ∙ ap (λ z. joined (map text (take i xs ++ z ∷ []))) at
+    ∙ sym (ap (λ l. joined (map text l)) (take_more xs i y within)))

@@ -1,12 +1,12 @@
 //! How names and texts are spelled in what the program prints.
-ghost use Rattle.std.specs.Prelude.{◌≡◌, ◌++◌, ◌<◌, ◌∷◌, [], OnOk};
+ghost use Rattle.std.specs.Prelude.{◌≡◌, ◌++◌, ◌<◌, ◌∷◌, [], IfOk, OnOk};
 ghost use Rattle.std.specs.List.{list_all};
 ghost use Rattle.sql_names.specs.Commas.{separator};
 ghost use Rattle.sql_names.specs.Spelling as spell;
 
 use crate::naming::reserved_word;
-use lists::Text;
-use std::alloc::AllocError;
+use lists::{Bytes, Items, Text};
+use std::alloc::{AllocError, Global};
 
 /// The digit of base 16 of a number below 16, in lower case.
 pub fn hex_digit(number: u8) -> u8
@@ -61,6 +61,15 @@ fn write_quoted(out: &mut Vec<u8>, mark: u8, text: &[u8]) -> Result<(), AllocErr
     Ok(())
 }
 
+/// A text as a STRING literal.
+pub fn quote_text(alloc: Global, text: &Text) -> Result<Bytes, AllocError>
+    ensures { IfOk result (λ bytes. bytes ≡ spell.quote_text text.now) }
+{
+    let mut out = Vec::new(alloc);
+    write_text(&mut out, text)?;
+    Ok(Items::from_vec(out))
+}
+
 /// Writes a STRING literal.
 pub fn write_text(out: &mut Vec<u8>, text: &Text) -> Result<(), AllocError>
     ensures { OnOk result (out.new.items ≡ out.old.items ++ spell.quote_text text.now) }
@@ -101,6 +110,15 @@ pub fn is_plain_name(name: &[u8]) -> bool
     ensures { result ≡ spell.is_plain name.now }
 {
     is_identifier(name) && reserved_word(name).is_none()
+}
+
+/// A name as it is printed: as it is where it is plain, and else in backquotes.
+pub fn quote_name(alloc: Global, name: &Text) -> Result<Bytes, AllocError>
+    ensures { IfOk result (λ bytes. bytes ≡ spell.quote_name name.now) }
+{
+    let mut out = Vec::new(alloc);
+    write_name(&mut out, name)?;
+    Ok(Items::from_vec(out))
 }
 
 /// Writes a name, in backquotes where it isn't plain.

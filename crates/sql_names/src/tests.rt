@@ -1,13 +1,22 @@
 //! Names and their spellings, against the rules of names.
-use crate::{Reserved, reserved_word, same_name, write_name};
+use crate::{Reserved, quote_name, quote_text, reserved_word, same_name};
 use lists::Text;
-use std::alloc::{AllocError, Global};
 use std::test::Fail;
 
-fn name_text(alloc: Global, name: &str) -> Result<Vec<u8>, AllocError> {
-    let mut out = Vec::new(alloc);
-    write_name(&mut out, &Text::copy_of(alloc, name)?)?;
-    Ok(out)
+#[test]
+fn texts(rt: HostRuntime) -> Result<(), Fail> {
+    let alloc = rt.alloc();
+    let table: [(&str, &[u8]); 4] = [
+        ("", b"\"\""),
+        ("a'`", b"\"a'`\""),
+        ("\\\"\n\r\t", b"\"\\\\\\\"\\n\\r\\t\""),
+        ("\u{1f}\u{7f}\u{e9}", b"\"\\x1f\\x7f\xc3\xa9\""),
+    ];
+    for (text, literal) in table {
+        let text = Text::copy_of(alloc, text)?;
+        assert_eq!(rt; quote_text(alloc, &text)?.as_slice(), literal);
+    }
+    Ok(())
 }
 
 #[test]
@@ -21,7 +30,8 @@ fn names(rt: HostRuntime) -> Result<(), Fail> {
         ("a`\"\\", b"`a\\`\"\\\\`"),
     ];
     for (name, text) in table {
-        assert_eq!(rt; name_text(alloc, name)?.as_slice(), text);
+        let name = Text::copy_of(alloc, name)?;
+        assert_eq!(rt; quote_name(alloc, &name)?.as_slice(), text);
     }
     assert_eq!(rt; reserved_word(b"Select"), Some(Reserved::Select));
     assert_eq!(rt; reserved_word(b"pivot"), None);
