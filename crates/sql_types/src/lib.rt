@@ -1,6 +1,7 @@
 //! Types, values, rows and outcomes: what every other crate speaks of.
 #![tactic(auto)]
 
+pub mod calendar;
 pub mod copies;
 pub mod fault;
 pub mod kinds;
@@ -10,6 +11,7 @@ pub mod sql_type;
 mod tests;
 pub mod value;
 
+pub use calendar::{CalendarDate, date_of, day_of, month_length};
 pub use copies::{copy_columns, copy_name, copy_type, copy_value, copy_values};
 pub use fault::{CallFault, FaultKind};
 pub use kinds::{JoinKind, SetKind, SortItem, SortItems};
