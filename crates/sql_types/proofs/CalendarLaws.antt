@@ -242,10 +242,8 @@ days_of_years-civil (suc count) first (suc k) among =
     rw a (rest ∙ (rw (b, one) (omega arith)))
 
 first_day-civil : days_of_years 10001 ≡ 3652791
-unfolding day_count
-first_day-civil =
-    let at_first : day_count (pos 1) 1 1 ≡ 3652791 = day_count-early (pos 1) 10000 1 1 refl (omega arith) (omega arith) (omega arith) in
-    at_first
+unfolding days_of_years
+first_day-civil = refl
 
 pub day_number-civil : (year month day : ℕ) → OnCalendar year month day → days_from_civil (pos year) month day ≡ day_number year month day
 unfolding days_from_civil day_count day_number days_before_year days_before_month calendar_years
@@ -264,9 +262,68 @@ day_number-civil (suc k) (suc j) day on =
 
 -- ---- the next day is the next number
 
-pub next_day : (year month day : ℕ) → 1 ≤ day → day_number year month (suc day) ≡ day_number year month day +ℤ pos 1
-unfolding day_number
-next_day year month day first = next-at (days_before_year year) (days_before_month year month) day first
+total-more : (xs : List ℕ) (k : ℕ) → k < length xs → total (take (suc k) xs) ≡ total (take k xs) + get_or xs k 0
+total-more [] k among = absurd (omega arith)
+total-more (x ∷ xs) zero among = omega arith
+total-more (x ∷ xs) (suc k) among = let rest = total-more xs k (omega arith) in omega arith
+
+numbers-next : (y m d y₂ m₂ d₂ : ℕ) → 1 ≤ d → 1 ≤ d₂ → y₂ + m₂ + d₂ ≡ y + m + d + 1 → pos (y₂ + (m₂ + d₂ - 1)) -ℤ pos 719162 ≡ pos (y + (m + d - 1)) -ℤ pos 719162 +ℤ pos 1
+numbers-next y m d y₂ m₂ d₂ first first₂ e = omega (arith, signed_arith)
+
+days_before-next_month : (year month : ℕ) → 1 ≤ month → month < 12 → days_before_month year (suc month) ≡ days_before_month year month + month_length year month
+unfolding days_before_month month_length
+days_before-next_month year zero first last = absurd (omega arith)
+days_before-next_month year (suc j) first last =
+    let a : suc (suc j) - 1 ≡ suc j = omega arith in
+    let b : suc j - 1 ≡ j = omega arith in
+    rw (a, b) (total-more (month_lengths year) j (omega arith))
+
+days_before-next_year : (year : ℕ) → 1 ≤ year → year ≤ 9999 → days_before_year (suc year) ≡ days_before_year year + year_length year
+unfolding days_before_year
+days_before-next_year zero first last = absurd (omega arith)
+days_before-next_year (suc k) first last =
+    let a : suc (suc k) - 1 ≡ suc k = omega arith in
+    let b : suc k - 1 ≡ k = omega arith in
+    let among : k < length calendar_years = rw length-calendar_years (omega arith) in
+    rw (a, b, total-more calendar_years k among, get_or-calendar_years k (omega arith)) refl
+
+december : (year : ℕ) → days_before_month year 12 + month_length year 12 ≡ year_length year
+unfolding days_before_month month_length year_length
+december year = december-by (is_leap year)
   where
-    next-at : (y m d : ℕ) → 1 ≤ d → pos (y + (m + suc d - 1)) -ℤ pos 719162 ≡ pos (y + (m + d - 1)) -ℤ pos 719162 +ℤ pos 1
-    next-at y m d first = omega (arith, signed_arith)
+    december-by : (b : Bool) → total (31 ∷ (if b then 29 else 28) ∷ 31 ∷ 30 ∷ 31 ∷ 30 ∷ 31 ∷ 31 ∷ 30 ∷ 31 ∷ 30 ∷ []) + 31
+        ≡ total (31 ∷ (if b then 29 else 28) ∷ 31 ∷ 30 ∷ 31 ∷ 30 ∷ 31 ∷ 31 ∷ 30 ∷ 31 ∷ 30 ∷ 31 ∷ [])
+    december-by true = refl
+    december-by false = refl
+
+january : (year : ℕ) → days_before_month year 1 ≡ 0
+unfolding days_before_month
+january year = refl
+
+abbrev day_number_of : CalendarDate → ℤ
+day_number_of date = day_number date.year date.month date.day
+
+next-by : (date : CalendarDate) (b c : Bool) → OnCalendar date.year date.month date.day → nat_lt date.day (month_length date.year date.month) ≡ b → nat_lt date.month 12 ≡ c
+    → day_number_of (if b then record date { day = suc date.day }
+        else if c then record { year = date.year; month = suc date.month; day = 1 }
+        else record { year = suc date.year; month = 1; day = 1 }) ≡ day_number_of date +ℤ pos 1
+unfolding day_number
+next-by date true c on within early =
+    numbers-next (days_before_year date.year) (days_before_month date.year date.month) date.day (days_before_year date.year) (days_before_month date.year date.month) (suc date.day) on.first_day (omega arith) (omega arith)
+next-by date false true on within early =
+    let end : date.day ≡ month_length date.year date.month = grind (arith, nat_tests) in
+    let later : date.month < 12 = grind (arith, nat_tests) in
+    let month = days_before-next_month date.year date.month on.first_month later in
+    numbers-next (days_before_year date.year) (days_before_month date.year date.month) date.day (days_before_year date.year) (days_before_month date.year (suc date.month)) 1 on.first_day (omega arith) (omega arith)
+next-by date false false on within early =
+    let end : date.day ≡ month_length date.year date.month = grind (arith, nat_tests) in
+    let last : date.month ≡ 12 = grind (arith, nat_tests) in
+    let all : days_before_month date.year date.month + month_length date.year date.month ≡ year_length date.year = rw last (december date.year) in
+    let year = days_before-next_year date.year on.first_year on.last_year in
+    let first = january (suc date.year) in
+    numbers-next (days_before_year date.year) (days_before_month date.year date.month) date.day (days_before_year (suc date.year)) (days_before_month (suc date.year) 1) 1 on.first_day (omega arith) (omega arith)
+
+-- the day after a date of the calendar has the next number
+pub day_number-next : (date : CalendarDate) → OnCalendar date.year date.month date.day
+    → day_number (next_date date).year (next_date date).month (next_date date).day ≡ day_number date.year date.month date.day +ℤ pos 1
+day_number-next date on = next-by date (nat_lt date.day (month_length date.year date.month)) (nat_lt date.month 12) on refl refl

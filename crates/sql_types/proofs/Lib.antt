@@ -2,4 +2,5 @@ pub mod OutcomeLaws
 pub mod Orders
 pub mod Opens
 pub mod Stretches
-mod CalendarLaws
+pub mod CalendarLaws
+pub mod CalendarCalls

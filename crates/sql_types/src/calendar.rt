@@ -20,7 +20,7 @@ pub fn date_of(days: i32) -> CalendarDate
 {
     match Date::from_unix_epoch_day(i64::from(days)) {
         Ok(date) => CalendarDate {
-            year: date.year as u16,
+            year: date.year.unsigned_abs(),
             month: date.month,
             day: date.day,
         },
