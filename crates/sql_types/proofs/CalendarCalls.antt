@@ -56,13 +56,14 @@ positive (negsuc n) from = absurd (omega (arith, signed_arith))
 -- the date that is called for a day is the day's date
 pub date_of-called : (date : Date) (day : ℤ) → epoch_day date ≡ day → is_day day ≡ true
     → (date.year ≡ pos (unsigned_abs date.year)) × (date_of day ≡ record { year = unsigned_abs date.year; month = date.month; day = date.day })
+    × OnCalendar (unsigned_abs date.year) date.month date.day
 date_of-called date day e is =
     let from = positive date.year (year-from_one date (ap is_day e ∙ is)) in
     let year = from.0 in
     let on = date-on date (unsigned_abs date.year) year from.1 in
     let number : day_number (unsigned_abs date.year) date.month date.day ≡ day =
     sym (day_number-civil (unsigned_abs date.year) date.month date.day on) ∙ ap (λ y. days_from_civil y date.month date.day) (sym year) ∙ e in
-    (year, ap date_of (sym number) ∙ date_of-day_number (unsigned_abs date.year) date.month date.day on)
+    (year, ap date_of (sym number) ∙ date_of-day_number (unsigned_abs date.year) date.month date.day on, on)
 
 -- a date that the calendar which is called takes is on this calendar
 pub on-civil : (year month day : ℕ) → 1 ≤ year → IsDate (pos year) (pos month) (pos day) → OnCalendar year month day

@@ -1,7 +1,6 @@
 -- The proleptic Gregorian calendar from the year 1 to the year 9999, and the texts of its dates. A day is a number: how
 -- many days it comes after 1970-01-01, negative before it.
 use Rattle.std.specs.Prelude.{ℕ, zero, suc, ◌+◌, ◌-◌, ◌*◌, ◌/◌, ◌%◌, ℤ, pos, ◌+ℤ◌, ◌-ℤ◌, unsigned_abs, Bool, true, not, ◌&&◌, ◌||◌, ◌==◌, nat_lt, nat_le, if◌then◌else◌, List, [], ◌∷◌, ◌++◌, length, take, drop, slice_index, position, Option, Some, None, option_map, option_and_then}
-use Rattle.std.specs.List.{list_all}
 use Rattle.std.specs.Char.{is_ascii_digit}
 use Rattle.sql_types.specs.declared.calendar.CalendarDate.{CalendarDate}
 
@@ -120,15 +119,14 @@ written_date date = four_digits date.year ++ (dash ∷ []) ++ two_digits date.mo
 unfoldable pub date_text : ℤ → List ℕ
 date_text day = written_date (date_of day)
 
--- the number that digits write, behind a number that others before them write
-abbrev pub number_after : ℕ → List ℕ → ℕ
-number_after n [] = n
-number_after n (c ∷ cs) = number_after (10 * n + (c - 48)) cs
+-- the number that digits write, behind a number that others before them write; what isn't a digit writes none
+abbrev pub number_after : ℕ → List ℕ → Option ℕ
+number_after n [] = Some n
+number_after n (c ∷ cs) = if is_ascii_digit c then number_after (10 * n + (c - 48)) cs else None
 
--- the number that digits alone write, where there are at least and at most so many
+-- the number that a text of at least and at most so many digits writes
 abbrev pub number_of : ℕ → ℕ → List ℕ → Option ℕ
-number_of least most text =
-    if from_to least most (length text) && list_all is_ascii_digit text then Some (number_after 0 text) else None
+number_of least most text = if from_to least most (length text) then number_after 0 text else None
 
 -- what stands before the first dash of a text, and what behind it
 abbrev pub cut_at_dash : List ℕ → Option (List ℕ × List ℕ)

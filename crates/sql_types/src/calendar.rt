@@ -1,5 +1,6 @@
 //! Days and dates. The calendar is the proleptic Gregorian one, from 0001-01-01 to 9999-12-31.
 ghost use Rattle.std.specs.Prelude.{◌≡◌, ◌≤◌, true};
+ghost use Rattle.std.specs.Int.{IsInRange};
 ghost use Rattle.sql_types.specs.Calendar as calendar;
 ghost use Rattle.sql_types.specs.Fits.{is_day};
 
@@ -16,7 +17,10 @@ pub struct CalendarDate {
 /// The date of a day, which is a number of days after 1970-01-01.
 pub fn date_of(days: i32) -> CalendarDate
     requires { is_day days ≡ true }
-    ensures { result ≡ calendar.date_of days }
+    ensures date { result ≡ calendar.date_of days }
+    ensures year { IsInRange 1 9999 result.year }
+    ensures month { IsInRange 1 12 result.month }
+    ensures day { IsInRange 1 31 result.day }
 {
     match Date::from_unix_epoch_day(i64::from(days)) {
         Ok(date) => CalendarDate {
