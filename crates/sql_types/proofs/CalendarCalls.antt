@@ -1,6 +1,5 @@
 -- The dates that the calendar which is called has from the year 1 on are those of this calendar.
-use Rattle.std.proofs.Common.{◌≡◌, ℕ, zero, suc, ◌+◌, ◌-◌, ◌<◌, ◌≤◌, ◌^◌, ℤ, pos, negsuc, neg_ℤ, ◌+ℤ◌, ◌-ℤ◌, ◌<ℤ◌, ◌≤ℤ◌, unsigned_abs, Bool, true, false, if◌then◌else◌, inl, inr, Some, None, refl, sym, ap, subst, ◌∙◌, arith, rules}
-use Rattle.std.proofs.lemmas.Bool.Decides.{nat_tests}
+use Rattle.std.proofs.Common.{◌≡◌, ℕ, ◌≤◌, ℤ, pos, negsuc, ◌<ℤ◌, ◌≤ℤ◌, unsigned_abs, Bool, true, false, if◌then◌else◌, inl, Some, None, refl, sym, ap, subst, ◌∙◌, arith, rules}
 use Rattle.std.proofs.lemmas.Int.{by_lt_z}
 use Rattle.std.proofs.lemmas.Grind.{common_steps}
 use Rattle.jiff_core.specs.declared.civil.date.Date.{Date}
@@ -9,10 +8,9 @@ use Rattle.jiff_core.specs.Date.{epoch_day}
 use Rattle.jiff_core.proofs.CalendarLemmas.{days_in_month_bounds}
 use Rattle.jiff_core.proofs.DateLemmas.{epoch_day-lt}
 use Rattle.jiff_core.proofs.SignedLemmas.{signed_arith}
-use Rattle.sql_types.specs.declared.calendar.CalendarDate.{CalendarDate}
 use Rattle.sql_types.specs.Calendar.{is_date, day_of, day_number, days_before_year, days_before_month, date_of, month_length}
 use Rattle.sql_types.specs.Fits.{is_day}
-use Rattle.sql_types.proofs.CalendarLaws.{OnCalendar, on_calendar, is_date-on, date_of-day_number, day_number-civil, month_length-civil, is_day-number}
+use Rattle.sql_types.proofs.CalendarLaws.{OnCalendar, on_calendar, is_date-on, date_of-day_number, day_number-civil, month_length-civil}
 
 first_date : Date
 first_date = record { year = pos 1; month = 1; day = 1; year_in = search rules; month_in = search rules; day_in = search rules }
@@ -41,7 +39,7 @@ year-from_one date is =
 
 -- the parts of a date that is called
 date-on : (date : Date) (year : ℕ) → date.year ≡ pos year → 1 ≤ year → OnCalendar year date.month date.day
-date-on date year is from = 
+date-on date year is from =
     let low = date.month_in in
     let same = month_length-civil year date.month low.0 low.1 in
     let P : ℕ → Type 0 = λ n. date.day ≤ n in

@@ -1,15 +1,13 @@
 -- The calendar: a day and its date determine each other, the next day is the next number, and the calendar that is
 -- called has the same dates.
-use Rattle.std.proofs.Common.{◌≡◌, ℕ, zero, suc, ◌+◌, ◌-◌, ◌*◌, ◌/◌, ◌%◌, ◌<◌, ◌≤◌, ℤ, pos, negsuc, neg_ℤ, ◌+ℤ◌, ◌-ℤ◌, unsigned_abs, Bool, true, false, if◌then◌else◌, ◌&&◌, nat_lt, nat_le, List, [], ◌∷◌, length, get_or, take, Some, None, refl, sym, ap, ◌∙◌, arith}
+use Rattle.std.proofs.Common.{◌≡◌, ℕ, zero, suc, ◌+◌, ◌-◌, ◌<◌, ◌≤◌, ℤ, pos, ◌+ℤ◌, ◌-ℤ◌, unsigned_abs, Bool, true, false, if◌then◌else◌, nat_lt, nat_le, List, [], ◌∷◌, length, get_or, take, refl, sym, ap, ◌∙◌, arith}
 use Rattle.std.proofs.lemmas.Bool.Decides.{nat_tests}
 use Rattle.std.proofs.lemmas.Grind.{common_steps}
-use Rattle.jiff_core.specs.Calendar.{days_in_year, days_in_month, days_of_years, days_of_months, days_from_civil, day_count} 
-use Rattle.jiff_core.specs.Calendar as civil
+use Rattle.jiff_core.specs.Calendar.{days_in_year, days_in_month, days_of_years, days_of_months, days_from_civil, day_count}
 use Rattle.jiff_core.proofs.SignedLemmas.{signed_arith}
 use Rattle.jiff_core.proofs.CalendarLemmas.{day_count-epoch}
-use Rattle.jiff_core.proofs.MarchLemmas.{day_count-early}
 use Rattle.sql_types.specs.declared.calendar.CalendarDate.{CalendarDate}
-use Rattle.sql_types.specs.Calendar.{is_leap, total, month_lengths, month_length, year_length, year_lengths, calendar_years, from_to, is_date, days_before_year, days_before_month, day_number, located, date_of, date_in_year, date_in_month, next_date}
+use Rattle.sql_types.specs.Calendar.{is_leap, total, month_lengths, month_length, year_length, year_lengths, calendar_years, is_date, days_before_year, days_before_month, day_number, located, date_of, date_in_year, next_date}
 use Rattle.sql_types.specs.Fits.{is_day}
 use Rattle.sql_types.proofs.Stretches.{located-at, IsAt, is_at-located}
 
@@ -139,8 +137,7 @@ date_in_year-is place found at =
     let day = months.inside in
     let b : suc month.0 - 1 ≡ month.0 = omega arith in
     let sums : place_of found.0 month.0 month.1 ≡ place = omega (arith, months.adds_up, at.adds_up) in
-    let last : suc month.1 ≤ get_or (month_lengths (suc found.0)) (suc month.0 - 1) 0 = rw b (omega (arith, day)) in
-    (
+    let last : suc month.1 ≤ get_or (month_lengths (suc found.0)) (suc month.0 - 1) 0 = rw b (omega (arith, day)) in (
       record { first_year = omega arith; last_year = omega arith; first_month = omega arith; last_month = omega arith; first_day = omega arith; last_day = last },
       day_number-place found.0 month.0 month.1 ∙ ap pos sums,
     )
@@ -305,8 +302,8 @@ day_number_of date = day_number date.year date.month date.day
 
 next-by : (date : CalendarDate) (b c : Bool) → OnCalendar date.year date.month date.day → nat_lt date.day (month_length date.year date.month) ≡ b → nat_lt date.month 12 ≡ c
     → day_number_of (if b then record date { day = suc date.day }
-        else if c then record { year = date.year; month = suc date.month; day = 1 }
-        else record { year = suc date.year; month = 1; day = 1 }) ≡ day_number_of date +ℤ pos 1
+    else if c then record { year = date.year; month = suc date.month; day = 1 }
+    else record { year = suc date.year; month = 1; day = 1 }) ≡ day_number_of date +ℤ pos 1
 unfolding day_number
 next-by date true c on within early =
     numbers-next (days_before_year date.year) (days_before_month date.year date.month) date.day (days_before_year date.year) (days_before_month date.year date.month) (suc date.day) on.first_day (omega arith) (omega arith)

@@ -4,3 +4,5 @@ pub mod Opens
 pub mod Stretches
 pub mod CalendarLaws
 pub mod CalendarCalls
+pub mod DateTextLaws
+mod CalendarExamples

@@ -53,7 +53,11 @@ pub fn read_date(text: &[u8]) -> Option<i32>
     let year_end = dash_place(text)?;
     let rest = &text[year_end + 1..];
     let month_end = dash_place(rest)?;
-    read_parts(&text[..year_end], &rest[..month_end], &rest[month_end + 1..])
+    read_parts(
+        &text[..year_end],
+        &rest[..month_end],
+        &rest[month_end + 1..],
+    )
 }
 
 /// The place of the first dash.

@@ -1,4 +1,4 @@
-use Rattle.std.proofs.Common.{◌≡◌, ◌∙◌, sym, ap, pos, w16, w32, to_z, of_z, rules, unsigned_abs, arith}
+use Rattle.std.proofs.Common.{◌≡◌, sym, rules, unsigned_abs}
 use Rattle.jiff_core.specs.Date.{epoch_day}
 use Rattle.sql_types.proofs.CalendarCalls.{date_of-called, day-most}
 use Rattle.sql_types.proofs.calendar.date_of.Goals as goal

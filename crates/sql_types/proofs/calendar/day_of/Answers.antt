@@ -1,8 +1,7 @@
-use Rattle.std.proofs.Common.{◌≡◌, ◌≤◌, ◌<◌, ℕ, ◌∙◌, sym, ap, pos, w8, w16, w32, to_z, of_z, rules, unsigned_abs, arith, refl, Some, None, inl, inr}
+use Rattle.std.proofs.Common.{◌≡◌, ℕ, ◌∙◌, sym, ap, pos, w8, w16, w32, to_z, of_z, rules, arith, refl, Some}
 use Rattle.std.proofs.lemmas.Int.{to_z_pos}
 use Rattle.jiff_core.specs.Calendar.{IsDate, days_from_civil}
-use Rattle.sql_types.specs.Calendar.{day_number}
-use Rattle.sql_types.proofs.CalendarLaws.{OnCalendar, day_number-civil}
+use Rattle.sql_types.proofs.CalendarLaws.{day_number-civil}
 use Rattle.sql_types.proofs.CalendarCalls.{on-civil, civil-on, day_of-none, day_of-some, day-most}
 use Rattle.sql_types.proofs.calendar.day_of.Goals as goal
 use Rattle.sql_types.proofs.calendar.day_of.Goals.{then-year-eq0-via-then-year-eq0, then-year-eq0-via-else-year-eq0+then-year-gt9999, then-year-eq0-via-else-year-eq0+else-year-gt9999+then-month-gt12, then-year-eq0-via-else-year-eq0+else-year-gt9999+else-month-gt12+then-day-gt31}
@@ -30,7 +29,7 @@ returns-in-Ok c =
     let on = on-civil c.args.year c.args.month c.args.day (omega arith) is in
     let v = rw (y, m, d) at c.in-Ok.ensures.value in
     let n : c.to_unix_epoch_day.result ≡ days_from_civil (pos c.args.year) c.args.month c.args.day =
-      rw (← same_pos _ _ v.1, ← same_pos _ _ v.2, ← v.0) c.to_unix_epoch_day.ensures.value in
+    rw (← same_pos _ _ v.1, ← same_pos _ _ v.2, ← v.0) c.to_unix_epoch_day.ensures.value in
     let back : to_z w32 (of_z w32 c.to_unix_epoch_day.result) ≡ c.to_unix_epoch_day.result = search rules in
     ap Some (back ∙ n ∙ day_number-civil c.args.year c.args.month c.args.day on) ∙ sym (day_of-some c.args.year c.args.month c.args.day on)
 
