@@ -4,3 +4,4 @@ pub mod Before
 pub mod Arranged
 pub mod Outcome
 pub mod TypeText
+pub mod Calendar
