@@ -1,8 +1,9 @@
 -- The literal of a value, by the literals of its parts.
-use Rattle.std.proofs.Common.{◌≡◌, ℕ, Bool, List, ◌++◌, map, codes, ap, sym, ◌∙◌, append_assoc}
+use Rattle.std.proofs.Common.{◌≡◌, ℕ, ℤ, Bool, List, ◌++◌, map, codes, ap, sym, ◌∙◌, append_assoc}
 use Rattle.std.specs.List.{list_all}
 use Rattle.std.proofs.lemmas.List.Folds.{list_all-map}
 use Rattle.sql_names.specs.Commas.{joined}
+use Rattle.sql_types.specs.Fits.{is_day}
 use Rattle.sql_types.specs.declared.value.Value.{Value, fold-Value, fold-roll-Value}
 use Rattle.sql_types.specs.declared.value.Value.TheOpen as o
 use Rattle.sql_types.specs.declared.value.Value.TheVariants as v
@@ -15,6 +16,10 @@ array_text elements = ap (fold-Value (List ℕ) literal_layer) (sym (v.rolls-Arr
 pub struct_text : (fields : List Value) → LiteralText (v.Struct fields) ≡ (codes "STRUCT(" ++ joined (map LiteralText fields)) ++ codes ")"
 unfolding LiteralText
 struct_text fields = ap (fold-Value (List ℕ) literal_layer) (sym (v.rolls-Struct fields)) ∙ fold-roll-Value (List ℕ) literal_layer (o.Struct fields)
+
+pub day_dates : (day : ℤ) → dates_fit (v.Date day) ≡ is_day day
+unfolding dates_fit
+day_dates day = ap (fold-Value Bool dates_layer) (sym (v.rolls-Date day)) ∙ fold-roll-Value Bool dates_layer (o.Date day)
 
 pub array_dates : (elements : List Value) → dates_fit (v.Array elements) ≡ list_all dates_fit elements
 unfolding dates_fit

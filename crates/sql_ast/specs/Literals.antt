@@ -1,9 +1,10 @@
 -- How values are spelled as literals.
-use Rattle.std.specs.Prelude.{ℕ, ◌/◌, ◌%◌, Bool, true, false, ◌==◌, ◌&&◌, ◌||◌, nat_le, if◌then◌else◌, List, [], ◌∷◌, ◌++◌, codes, decimal}
+use Rattle.std.specs.Prelude.{ℕ, ℤ, ◌/◌, ◌%◌, Bool, true, false, ◌==◌, ◌&&◌, ◌||◌, nat_le, if◌then◌else◌, List, [], ◌∷◌, ◌++◌, codes, decimal}
 use Rattle.std.specs.Fmt.{signed_decimal}
 use Rattle.std.specs.List.{list_all}
 use Rattle.sql_names.specs.Spelling.{hex_digit, quote_text}
 use Rattle.sql_names.specs.Commas.{joined}
+use Rattle.sql_types.specs.Calendar.{date_text}
 use Rattle.sql_types.specs.Fits.{is_day}
 use Rattle.sql_types.specs.declared.value.Value.{Value, fold-Value}
 use Rattle.sql_types.specs.declared.value.Value.TheOpen as v
@@ -25,6 +26,10 @@ bytes_text (b ∷ bs) = byte_text b ++ bytes_text bs
 abbrev pub quote_bytes : List ℕ → List ℕ
 quote_bytes bytes = (codes "b\"" ++ bytes_text bytes) ++ codes "\""
 
+-- a DATE literal: the word, and the date in `"`
+abbrev pub quote_date : ℤ → List ℕ
+quote_date day = (codes "DATE \"" ++ date_text day) ++ codes "\""
+
 abbrev pub truth_text : Bool → List ℕ
 truth_text true = codes "TRUE"
 truth_text false = codes "FALSE"
@@ -38,7 +43,7 @@ literal_layer (v.Int n) = signed_decimal n
 literal_layer (v.Uint n) = decimal n
 literal_layer (v.Text text) = quote_text text
 literal_layer (v.Bytes bytes) = quote_bytes bytes
-literal_layer (v.Date day) = []
+literal_layer (v.Date day) = quote_date day
 -- the elements of an ARRAY, and the fields of a STRUCT without their names
 literal_layer (v.Array elements) = (codes "[" ++ joined elements) ++ codes "]"
 literal_layer (v.Struct fields) = (codes "STRUCT(" ++ joined fields) ++ codes ")"

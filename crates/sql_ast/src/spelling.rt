@@ -3,6 +3,7 @@ ghost use Rattle.std.specs.Prelude.{◌≡◌, ◌++◌, IfOk, OnOk, decimal, ma
 ghost use Rattle.std.specs.Fmt.{signed_decimal};
 ghost use Rattle.std.specs.List.{list_all};
 ghost use Rattle.sql_names.specs.Commas.{joined};
+ghost use Rattle.sql_types.specs.Fits.{is_day};
 ghost use Rattle.sql_ast.specs.Literals as literals;
 
 use itoa::Buffer;
@@ -10,7 +11,7 @@ use sql_names::spelling::hex_digit;
 pub use sql_names::spelling::{
     is_plain_name, quote_name, quote_text, write_name, write_separator, write_text,
 };
-use sql_types::{Bytes, Items, Value};
+use sql_types::{Bytes, Items, Value, write_date};
 use std::alloc::{AllocError, Global};
 
 /// The literal that spells a value. Each DATE in it lies in DATE's range.
@@ -25,7 +26,7 @@ pub fn literal_text(alloc: Global, value: &Value) -> Result<Bytes, AllocError>
 
 /// Writes the literal that spells a value. Each DATE in it lies in DATE's range.
 #[cycle(literals)]
-#[tactic(auto, using(crate::proofs::LiteralLaws::array_dates, crate::proofs::LiteralLaws::struct_dates), unfolding(crate::specs::Literals::LiteralText))]
+#[tactic(auto, using(crate::proofs::LiteralLaws::array_dates, crate::proofs::LiteralLaws::struct_dates, crate::proofs::LiteralLaws::day_dates), unfolding(crate::specs::Literals::LiteralText))]
 pub fn write_literal(out: &mut Vec<u8>, value: &Value) -> Result<(), AllocError>
     requires { literals.dates_fit value.now ≡ true }
     ensures { OnOk result (out.new.items ≡ out.old.items ++ literals.LiteralText value.now) }
@@ -37,7 +38,7 @@ pub fn write_literal(out: &mut Vec<u8>, value: &Value) -> Result<(), AllocError>
         Value::Uint(number) => write_unsigned(out, *number),
         Value::Text(text) => write_text(out, text),
         Value::Bytes(bytes) => write_bytes(out, bytes.as_slice()),
-        Value::Date(_) => Ok(()),
+        Value::Date(day) => write_quoted_date(out, *day),
         Value::Array(elements) => {
             out.push(b'[')?;
             write_literals(out, elements.as_slice())?;
@@ -88,6 +89,16 @@ fn write_unsigned(out: &mut Vec<u8>, number: u64) -> Result<(), AllocError>
 {
     let mut buffer = Buffer::new();
     out.extend_from_slice(buffer.format(number).as_bytes())
+}
+
+/// Writes a DATE literal.
+fn write_quoted_date(out: &mut Vec<u8>, day: i32) -> Result<(), AllocError>
+    requires { is_day day ≡ true }
+    ensures { OnOk result (out.new.items ≡ out.old.items ++ literals.quote_date day) }
+{
+    out.extend_from_slice(b"DATE \"")?;
+    write_date(out, day)?;
+    out.extend_from_slice(b"\"")
 }
 
 /// Writes a BYTES literal.

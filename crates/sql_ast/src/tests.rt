@@ -1,6 +1,6 @@
 //! Words, and spellings against the rules of literals and rows.
 use crate::spelling::literal_text;
-use crate::{Sign, Word, grammar_word, rows_text, sign_of};
+use crate::{Sign, Word, dates_fit, grammar_word, rows_text, sign_of};
 use sql_types::{Items, Named, Rows, SqlType, Text, Value, Values};
 use std::alloc::Global;
 use std::test::Fail;
@@ -31,7 +31,7 @@ fn two(alloc: Global, first: Value, second: Value) -> Result<Values, Fail> {
 fn values_by_their_text(rt: HostRuntime) -> Result<(), Fail> {
     let alloc = rt.alloc();
     let pair = two(alloc, Value::Int(1), text_value(alloc, "a")?)?;
-    let table: [(Value, &[u8]); 14] = [
+    let table: [(Value, &[u8]); 17] = [
         (Value::Null, b"NULL"),
         (Value::Bool(true), b"TRUE"),
         (Value::Bool(false), b"FALSE"),
@@ -48,6 +48,9 @@ fn values_by_their_text(rt: HostRuntime) -> Result<(), Fail> {
             bytes_value(alloc, b"\n\x00\x7f\xab\xff")?,
             b"b\"\\x0a\\x00\\x7f\\xab\\xff\"",
         ),
+        (Value::Date(19_753), b"DATE \"2024-01-31\""),
+        (Value::Date(-719_162), b"DATE \"0001-01-01\""),
+        (Value::Date(2_932_896), b"DATE \"9999-12-31\""),
         (Value::Array(Items::new(alloc)), b"[]"),
         (
             Value::Array(two(alloc, Value::Int(1), Value::Int(2))?),
@@ -60,9 +63,12 @@ fn values_by_their_text(rt: HostRuntime) -> Result<(), Fail> {
         (Value::Struct(Items::new(alloc)), b"STRUCT()"),
     ];
     for (value, text) in &table {
+        assert!(rt; dates_fit(value));
         let literal = literal_text(alloc, value)?;
         assert_eq!(rt; literal.as_slice(), *text);
     }
+    assert!(rt; !dates_fit(&Value::Date(-719_163)));
+    assert!(rt; !dates_fit(&Value::Array(two(alloc, Value::Null, Value::Date(2_932_897))?)));
     Ok(())
 }
 
