@@ -1,2 +1,3 @@
 pub mod LiteralLaws
 pub mod DatesFitLaws
+mod LiteralExamples

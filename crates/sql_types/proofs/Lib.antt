@@ -7,3 +7,4 @@ pub mod CalendarLaws
 pub mod CalendarCalls
 pub mod DateTextLaws
 mod CalendarExamples
+mod TypeTextExamples
