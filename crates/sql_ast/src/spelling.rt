@@ -26,7 +26,7 @@ pub fn literal_text(alloc: Global, value: &Value) -> Result<Bytes, AllocError>
 
 /// Writes the literal that spells a value. Each DATE in it lies in DATE's range.
 #[cycle(literals)]
-#[tactic(auto, using(crate::proofs::LiteralLaws::array_dates, crate::proofs::LiteralLaws::struct_dates, crate::proofs::LiteralLaws::day_dates), unfolding(crate::specs::Literals::LiteralText))]
+#[tactic(auto, using(crate::proofs::LiteralLaws::day_dates), unfolding(crate::specs::Literals::LiteralText))]
 pub fn write_literal(out: &mut Vec<u8>, value: &Value) -> Result<(), AllocError>
     requires { literals.dates_fit value.now ≡ true }
     ensures { OnOk result (out.new.items ≡ out.old.items ++ literals.LiteralText value.now) }
