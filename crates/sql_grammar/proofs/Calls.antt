@@ -19,7 +19,7 @@ use Rattle.sql_ast.specs.declared.words.Sign.{Sign}
 use Rattle.sql_ast.specs.declared.clauses.Arg.TheVariants as arg_kind
 use Rattle.sql_ast.specs.declared.clauses.Function.TheVariants as function_kind
 use Rattle.sql_ast.specs.declared.expr.Expr.TheVariants as e
-use Rattle.sql_ast.specs.declared.words.Reserved.TheVariants as r
+use Rattle.sql_names.specs.declared.words.Reserved.TheVariants as r
 use Rattle.sql_ast.specs.declared.words.Sign.TheVariants as s
 use Rattle.sql_ast.specs.Marks.{Tokens, Is, reserved, sign, named, start_of}
 use Rattle.sql_ast.specs.Trees.{name_at, function_of}

@@ -14,7 +14,7 @@ use Rattle.sql_ast.specs.declared.query.Body.{Body}
 use Rattle.sql_ast.specs.declared.query.Term.{Term}
 use Rattle.sql_ast.specs.declared.query.Term.TheVariants as term_kind
 use Rattle.sql_ast.specs.declared.token.Token.{Token}
-use Rattle.sql_ast.specs.declared.words.Reserved.TheVariants as r
+use Rattle.sql_names.specs.declared.words.Reserved.TheVariants as r
 use Rattle.sql_ast.specs.declared.words.Sign.TheVariants as s
 use Rattle.sql_ast.specs.Marks.{Tokens, Is, reserved}
 use Rattle.sql_ast.specs.Grammar.{BodyOf, body_is, set_terms_none, ExprOf, FromPartOf, GroupByOf, HavingOf, SelectOf, TermOf, WhereOf, from_none, group_none, having_is, having_none, select_is, term_query, term_select, where_is, where_none}

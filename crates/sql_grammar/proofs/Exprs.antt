@@ -16,7 +16,7 @@ use Rattle.sql_ast.specs.declared.expr.Expr.TheVariants as e
 use Rattle.sql_ast.specs.declared.expr.IndexForm.TheVariants as index_form_kind
 use Rattle.sql_ast.specs.declared.expr.Part.TheVariants as part_kind
 use Rattle.sql_ast.specs.declared.token.Lexeme.TheVariants as l
-use Rattle.sql_ast.specs.declared.words.Reserved.TheVariants as r
+use Rattle.sql_names.specs.declared.words.Reserved.TheVariants as r
 use Rattle.sql_ast.specs.declared.words.Sign.TheVariants as s
 use Rattle.sql_ast.specs.declared.words.Word.TheVariants as w
 use Rattle.sql_ast.specs.Marks.{Tokens, Is, reserved, sign, word, named, spelled, content, start_of, same_reserved, same_word, reserved_lexeme, word_lexeme, name_lexeme}

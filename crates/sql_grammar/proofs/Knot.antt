@@ -11,7 +11,7 @@ use Rattle.sql_ast.specs.declared.expr.Expr.{Expr}
 use Rattle.sql_ast.specs.declared.query.Query.{Query}
 use Rattle.sql_ast.specs.declared.query.Term.{Term}
 use Rattle.sql_ast.specs.declared.token.Token.{Token}
-use Rattle.sql_ast.specs.declared.words.Reserved.TheVariants as r
+use Rattle.sql_names.specs.declared.words.Reserved.TheVariants as r
 use Rattle.sql_ast.specs.declared.words.Sign.TheVariants as s
 use Rattle.sql_ast.specs.Marks.{Tokens, Is, reserved}
 use Rattle.sql_ast.specs.Grammar.{BandOf, BasicOf, BorOf, BxorOf, ConjOf, ExprOf, PostfixOf, ProdOf, QueryOf, ShiftOf, SumOf, TermOf, TextOf, ands_none, band_is, bands_none, body_is, bor_is, bors_none, bxor_is, bxors_none, comp_bor, conj_is, cte_commas_none, cte_is, ctes_are, ctes_none, expr_is, neg_is, order_none, ors_none, parts_none, postfix_is, prod_is, prods_none, query_is, set_terms_none, shift_is, shifts_none, sum_is, sums_none, text_is, text_semicolon, unary_is}

@@ -8,10 +8,10 @@ use Rattle.fronts.specs.Readers.{◌>>=◌, token, if_comes}
 use Rattle.fronts.proofs.Firm.{Opens, Any}
 use Rattle.fronts.proofs.Exact as E
 use Rattle.fronts.proofs.Exact.{Exact, less, opens_tok}
-use Rattle.sql_ast.specs.contracts.words.Reserved as reserved_contract
+use Rattle.sql_names.specs.contracts.words.Reserved as reserved_contract
 use Rattle.sql_ast.specs.contracts.words.Word as word_contract
 use Rattle.sql_ast.specs.contracts.words.Sign as sign_contract
-use Rattle.sql_ast.specs.declared.words.Reserved.{Reserved}
+use Rattle.sql_names.specs.declared.words.Reserved.{Reserved}
 use Rattle.sql_ast.specs.declared.words.Word.{Word}
 use Rattle.sql_ast.specs.declared.words.Sign.{Sign}
 use Rattle.sql_ast.specs.declared.token.Token.{Token}
@@ -20,7 +20,7 @@ use Rattle.sql_ast.specs.declared.token.Lexeme.TheVariants as l
 use Rattle.sql_ast.specs.Marks.{closes_shift, Tokens, Is, Says, same_reserved, same_word, same_sign, reserved, sign, word, named, text, bytes, integer, parameter}
 use Rattle.sql_ast.specs.Parts.{from_alias, counts}
 use Rattle.sql_ast.specs.Trees.{function_of, prefix_of, product_of, sum_of, comparison_of, quantifier_of, test_of, form_of, cube_of}
-use Rattle.sql_ast.specs.declared.words.Reserved.TheVariants as r
+use Rattle.sql_names.specs.declared.words.Reserved.TheVariants as r
 use Rattle.sql_ast.specs.declared.words.Sign.TheVariants as s
 use Rattle.sql_ast.specs.declared.words.Word.TheVariants as w
 use Rattle.sql_grammar.specs.Classes.{set_word_of}

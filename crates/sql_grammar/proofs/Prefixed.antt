@@ -5,7 +5,7 @@ use Rattle.fronts.specs.Readers.{taken, deep, Reader, and_then, ◌>>=◌, pure,
 use Rattle.fronts.proofs.Firm.{Opens}
 use Rattle.fronts.proofs.Exact.{Exact, last, into, done, exact_many, exact_all, exact_lower, opens_bind}
 use Rattle.sql_ast.specs.declared.token.Token.{Token}
-use Rattle.sql_ast.specs.declared.words.Reserved.TheVariants as r
+use Rattle.sql_names.specs.declared.words.Reserved.TheVariants as r
 use Rattle.sql_ast.specs.Marks.{reserved}
 use Rattle.sql_ast.specs.Trees.{prefix_of, nots, prefixes}
 use Rattle.sql_ast.specs.Grammar.{BxorOf, BandOf, BorOf, ConjOf, CompOf, ExprOf, NegOf, ProdOf, ShiftOf, SumOf, UnaryOf}

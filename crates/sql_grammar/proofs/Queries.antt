@@ -15,7 +15,7 @@ use Rattle.sql_ast.specs.declared.query.Query.{Query, roll-Query}
 use Rattle.sql_ast.specs.declared.query.SetTerm.{SetTerm}
 use Rattle.sql_ast.specs.declared.query.Term.{Term}
 use Rattle.sql_ast.specs.declared.token.Token.{Token}
-use Rattle.sql_ast.specs.declared.words.Reserved.TheVariants as r
+use Rattle.sql_names.specs.declared.words.Reserved.TheVariants as r
 use Rattle.sql_ast.specs.declared.words.Sign.TheVariants as s
 use Rattle.sql_ast.specs.Marks.{Tokens, Is, reserved, sign, start_of}
 use Rattle.sql_ast.specs.Grammar.{BodyOf, CteCommasOf, CteOf, CtesOf, OrderOf, QueryOf, TermOf, body_is, cte_commas_more, cte_commas_none, cte_is, ctes_are, ctes_none, order_none, query_is}

@@ -12,8 +12,8 @@ use Rattle.sql_ast.specs.declared.query.Term.{Term}
 use Rattle.sql_ast.specs.declared.token.Lexeme.{Lexeme}
 use Rattle.sql_ast.specs.declared.token.Lexeme.TheVariants as l
 use Rattle.sql_ast.specs.declared.token.Token.{Token}
-use Rattle.sql_ast.specs.declared.words.Reserved.{Reserved}
-use Rattle.sql_ast.specs.declared.words.Reserved.TheVariants as r
+use Rattle.sql_names.specs.declared.words.Reserved.{Reserved}
+use Rattle.sql_names.specs.declared.words.Reserved.TheVariants as r
 use Rattle.sql_ast.specs.Marks.{Tokens, Is, reserved, reserved_lexeme, same_reserved, start_of}
 use Rattle.sql_ast.specs.Trees.{set_word, set_quantifier}
 use Rattle.sql_ast.specs.Grammar.{BodyOf, SetTermsOf, TermOf, body_is, set_terms_more, set_terms_none}

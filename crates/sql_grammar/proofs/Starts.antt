@@ -3,7 +3,7 @@ use Rattle.std.proofs.Common.{◌≡◌, ◌||◌, Bool, true, false, Some, None
 use Rattle.sql_ast.specs.declared.token.Lexeme.{Lexeme}
 use Rattle.sql_ast.specs.declared.token.Lexeme.TheVariants as l
 use Rattle.sql_ast.specs.declared.token.Token.{Token}
-use Rattle.sql_ast.specs.declared.words.Reserved.TheVariants as r
+use Rattle.sql_names.specs.declared.words.Reserved.TheVariants as r
 use Rattle.sql_ast.specs.declared.words.Sign.TheVariants as s
 use Rattle.sql_ast.specs.Marks.{same_reserved, same_sign, reserved_lexeme, sign_lexeme, name_lexeme, integer_lexeme, text_lexeme, bytes_lexeme, parameter_lexeme, reserved}
 use Rattle.sql_ast.specs.Trees.{prefix_lexeme, prefix_of}

@@ -1,3 +1,10 @@
 pub mod OutcomeLaws
 pub mod Orders
 pub mod Opens
+pub mod TypeTextLaws
+pub mod Stretches
+pub mod CalendarLaws
+pub mod CalendarCalls
+pub mod DateTextLaws
+mod CalendarExamples
+mod TypeTextExamples

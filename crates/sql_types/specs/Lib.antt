@@ -3,3 +3,5 @@ pub mod Same
 pub mod Before
 pub mod Arranged
 pub mod Outcome
+pub mod TypeText
+pub mod Calendar
