@@ -1,5 +1,12 @@
 pub mod Fits
 pub mod Same
 pub mod Before
-pub mod Arranged
+pub mod Comparable
+pub mod SameType
 pub mod Outcome
+pub mod Logic
+pub mod Joined
+pub mod Parted
+pub mod Combined
+pub mod Arranged
+pub mod Cut
