@@ -1,3 +1,5 @@
 pub mod OutcomeLaws
 pub mod Orders
 pub mod Opens
+pub mod TypeOpens
+pub mod ValueOpens

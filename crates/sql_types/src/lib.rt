@@ -3,8 +3,10 @@
 
 pub mod copies;
 pub mod fault;
+pub mod fitting;
 pub mod kinds;
 pub mod rows;
+pub mod sorts;
 pub mod sql_type;
 #[cfg(test)]
 mod tests;
@@ -12,8 +14,10 @@ pub mod value;
 
 pub use copies::{copy_columns, copy_name, copy_type, copy_value, copy_values};
 pub use fault::{CallFault, FaultKind};
+pub use fitting::{all_fit, fits, row_fits};
 pub use kinds::{JoinKind, SetKind, SortItem, SortItems};
 pub use lists::{Boxed, Bytes, Items, ListType, OutOfMemory, Text};
 pub use rows::{Answer, Param, Params, Rows, Tables};
+pub use sorts::{comparable, groupable, orderable, same_type};
 pub use sql_type::{Column, Columns, Field, Fields, Named, SqlType, Types};
 pub use value::{Value, Values};
