@@ -3,3 +3,5 @@ pub mod Orders
 pub mod Opens
 pub mod TypeOpens
 pub mod ValueOpens
+pub mod SameLaws
+pub mod EqualSteps

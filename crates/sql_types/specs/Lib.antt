@@ -1,5 +1,6 @@
 pub mod Fits
 pub mod Same
+pub mod SameValue
 pub mod Before
 pub mod Comparable
 pub mod SameType
