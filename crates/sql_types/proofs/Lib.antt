@@ -5,3 +5,4 @@ pub mod TypeOpens
 pub mod ValueOpens
 pub mod SameLaws
 pub mod EqualSteps
+pub mod EqualLaws

@@ -2,6 +2,7 @@ pub mod Fits
 pub mod Same
 pub mod SameValue
 pub mod Before
+pub mod Nulls
 pub mod Comparable
 pub mod SameType
 pub mod Outcome
