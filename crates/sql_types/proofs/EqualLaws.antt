@@ -15,6 +15,7 @@ use Rattle.sql_types.specs.Same.{equal, equal_fields, both_true}
 use Rattle.sql_types.specs.Fits.{fits, fits_row}
 use Rattle.sql_types.specs.Comparable.{comparable, all_comparable}
 use Rattle.sql_types.specs.Nulls.{holds_null, null_layer, some_true}
+use Rattle.sql_types.proofs.Tests.{first, second, neither_first, neither_second}
 use Rattle.sql_types.proofs.ValueOpens.{equal_opens, equal_at, fits_opens, fits_at}
 use Rattle.sql_types.proofs.TypeOpens.{comparable_opens, comparable_at}
 
@@ -73,22 +74,6 @@ equal_turned = ind-Value IsTurned (λ x parts is. subst (λ z. IsTurned (roll-Va
 
 abbrev IsItself : Value → Type 0
 IsItself x = (ty : SqlType) → fits ty x ≡ true → comparable ty ≡ true → holds_null x ≡ false → equal x x ≡ Some true
-
-first : (a b : Bool) → (a && b) ≡ true → a ≡ true
-first true b e = refl
-first false b e = e
-
-second : (a b : Bool) → (a && b) ≡ true → b ≡ true
-second true b e = e
-second false b e = absurd (false≢true e)
-
-neither_first : (a b : Bool) → (a || b) ≡ false → a ≡ false
-neither_first true b e = e
-neither_first false b e = refl
-
-neither_second : (a b : Bool) → (a || b) ≡ false → b ≡ false
-neither_second true b e = absurd (false≢true (sym e))
-neither_second false b e = e
 
 number_itself : (n : ℤ) → (int_le n n && int_le n n) ≡ true
 number_itself (pos n) = grind (arith, nat_tests, ints)

@@ -5,4 +5,6 @@ pub mod TypeOpens
 pub mod ValueOpens
 pub mod SameLaws
 pub mod EqualSteps
+pub mod Tests
 pub mod EqualLaws
+pub mod OrderLaws

@@ -5,6 +5,7 @@ pub mod Before
 pub mod Nulls
 pub mod Comparable
 pub mod SameType
+pub mod Sorting
 pub mod Outcome
 pub mod Logic
 pub mod Joined
