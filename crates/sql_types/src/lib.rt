@@ -9,6 +9,7 @@ pub mod kinds;
 pub mod ordering;
 pub mod rows;
 pub mod sameness;
+pub mod sorting;
 pub mod sorts;
 pub mod sql_type;
 #[cfg(test)]
@@ -24,6 +25,7 @@ pub use lists::{Boxed, Bytes, Items, ListType, OutOfMemory, Text};
 pub use ordering::{compare_rows, item_order, order};
 pub use rows::{Answer, Param, Params, Rows, Tables};
 pub use sameness::{same, same_row};
+pub use sorting::sorting_order;
 pub use sorts::{comparable, groupable, orderable, same_type};
 pub use sql_type::{Column, Columns, Field, Fields, Named, SqlType, Types};
 pub use value::{Value, Values};

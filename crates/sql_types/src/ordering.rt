@@ -91,13 +91,13 @@ pub fn item_order(item: &SortItem, left: &Value, right: &Value) -> Ordering
     }
 }
 
-fn is_null(value: &Value) -> bool
+pub(crate) fn is_null(value: &Value) -> bool
     ensures { result ≡ before.is_null (out-Value value.now) }
 {
     matches!(value, Value::Null)
 }
 
-fn null_order(nulls_first: bool) -> Ordering
+pub(crate) fn null_order(nulls_first: bool) -> Ordering
     ensures { result ≡ before.null_order nulls_first }
 {
     if nulls_first {
@@ -107,7 +107,7 @@ fn null_order(nulls_first: bool) -> Ordering
     }
 }
 
-fn directed(descending: bool, order: Ordering) -> Ordering
+pub(crate) fn directed(descending: bool, order: Ordering) -> Ordering
     ensures { result ≡ before.directed descending order }
 {
     if descending { order.reverse() } else { order }
