@@ -8,3 +8,4 @@ pub mod EqualSteps
 pub mod Tests
 pub mod EqualLaws
 pub mod OrderLaws
+mod Examples
