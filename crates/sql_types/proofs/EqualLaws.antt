@@ -115,9 +115,9 @@ rolled_itself x told ty fit compare none =
     equal_opens (roll-Value x) (roll-Value x)
     ∙ (λ i. equal_at (out-roll-Value x i) (out-roll-Value x i))
     ∙ told (out-SqlType ty)
-      (ap (fits_at (out-SqlType ty)) (sym (out-roll-Value x)) ∙ sym (fits_opens ty (roll-Value x)) ∙ fit)
-      (sym (comparable_opens ty) ∙ compare)
-      (ap (λ z. null_layer (map-Value Value Bool holds_null z)) (sym (out-roll-Value x)) ∙ sym (holds_null_opens (roll-Value x)) ∙ none)
+    (ap (fits_at (out-SqlType ty)) (sym (out-roll-Value x)) ∙ sym (fits_opens ty (roll-Value x)) ∙ fit)
+    (sym (comparable_opens ty) ∙ compare)
+    (ap (λ z. null_layer (map-Value Value Bool holds_null z)) (sym (out-roll-Value x)) ∙ sym (holds_null_opens (roll-Value x)) ∙ none)
 
 -- a value of a comparable type that holds no NULL is equal to itself
 pub equal_itself : (x : Value) (ty : SqlType) → fits ty x ≡ true → comparable ty ≡ true → holds_null x ≡ false → equal x x ≡ Some true

@@ -14,10 +14,6 @@ use Rattle.sql_types.specs.Combined.{Counted, counted_none, counted_same, counte
 use Rattle.sql_types.specs.Arranged.{permutes_skip, permutes_swap}
 use Rattle.sql_types.specs.Cut.{cut, Cut}
 
-
-
-
-
 -- ---- joins: of the left rows 1 and 2 and the right rows 7 and 8 the pair of 1 and 7 is kept
 
 abbrev lefts : List (List Value)

@@ -132,7 +132,7 @@ by_rank_total item = then_total (on_total (λ x. rank item.nulls_first (is_null 
 item_total : (item : SortItem) → IsTotalOrder (whole_item_order item)
 item_total item =
     on_total out-Value (renamed (λ x y. placed item (is_null x) (is_null y) (whole_value_order x y)) (by_rank item)
-      (λ x y. ranked item.place item.descending item.nulls_first (is_null x) (is_null y) (whole_value_order x y) (nulls_tie x y)) (by_rank_total item))
+    (λ x y. ranked item.place item.descending item.nulls_first (is_null x) (is_null y) (whole_value_order x y) (nulls_tie x y)) (by_rank_total item))
 
 -- ---- rows
 
@@ -143,7 +143,7 @@ pub whole_rows_total : (items : List SortItem) → IsTotalOrder (whole_rows_orde
 whole_rows_total [] = record { antisymm = λ x y. refl; trans = λ x y z e f. e; congr = λ x y z e. refl }
 whole_rows_total (item ∷ items) =
     renamed (whole_rows_order (item ∷ items)) (then_cmp (whole_row_order item) (whole_rows_order items)) (λ a b. then_same (whole_row_order item a b) (whole_rows_order items a b))
-      (then_total (row_total item) (whole_rows_total items))
+    (then_total (row_total item) (whole_rows_total items))
 
 -- so std's sort sorts by it
 pub whole_rows_ranks : (items : List SortItem) → IsStrictWeakOrder (λ a b. is_lt (whole_rows_order items a b))
@@ -273,9 +273,9 @@ whole_item_same item ty x y fit_x fit_y orders =
     let b = out-Value y in
     let form = out-SqlType ty in
     placed_same item (is_null a) (is_null b) (whole_value_order a b) (value_order a b) (λ some_x some_y.
-      let k = fitting_kind form a (sym (fits_opens ty x) ∙ fit_x) orders some_x in
-      let l = fitting_kind form b (sym (fits_opens ty y) ∙ fit_y) orders some_y in
-      within_kind a b ((λ i. nat_cmp (k i) (l i)) ∙ tied_itself nat_cmp_total (kind_at form)))
+    let k = fitting_kind form a (sym (fits_opens ty x) ∙ fit_x) orders some_x in
+    let l = fitting_kind form b (sym (fits_opens ty y) ∙ fit_y) orders some_y in
+    within_kind a b ((λ i. nat_cmp (k i) (l i)) ∙ tied_itself nat_cmp_total (kind_at form)))
 
 missing_same : (item : SortItem) → whole_item_order item Null Null ≡ item_order item Null Null
 missing_same item =

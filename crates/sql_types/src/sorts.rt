@@ -13,14 +13,8 @@ pub fn comparable(ty: &SqlType) -> bool
     ensures { result ≡ kinds.comparable ty.now }
 {
     match ty {
-        SqlType::Bool => true,
-        SqlType::Int32 => true,
-        SqlType::Int64 => true,
-        SqlType::Uint32 => true,
-        SqlType::Uint64 => true,
-        SqlType::Text => true,
-        SqlType::Bytes => true,
-        SqlType::Date => true,
+        SqlType::Bool | SqlType::Int32 | SqlType::Int64 | SqlType::Uint32 => true,
+        SqlType::Uint64 | SqlType::Text | SqlType::Bytes | SqlType::Date => true,
         SqlType::Array(_) => false,
         SqlType::Struct(fields) => all_comparable(fields),
     }
@@ -51,16 +45,9 @@ pub fn orderable(ty: &SqlType) -> bool
     ensures { result ≡ kinds.orderable ty.now }
 {
     match ty {
-        SqlType::Array(_) => false,
-        SqlType::Struct(_) => false,
-        SqlType::Bool => true,
-        SqlType::Int32 => true,
-        SqlType::Int64 => true,
-        SqlType::Uint32 => true,
-        SqlType::Uint64 => true,
-        SqlType::Text => true,
-        SqlType::Bytes => true,
-        SqlType::Date => true,
+        SqlType::Bool | SqlType::Int32 | SqlType::Int64 | SqlType::Uint32 => true,
+        SqlType::Uint64 | SqlType::Text | SqlType::Bytes | SqlType::Date => true,
+        SqlType::Array(_) | SqlType::Struct(_) => false,
     }
 }
 

@@ -1,7 +1,9 @@
 //! Rows, copies, and the calls that compare and test values and types.
-use crate::{Boxed, Items, Named, Rows, SortItem, SqlType, Text, Value, Values};
-use crate::{all_fit, comparable, compare_rows, copy_columns, copy_values, equal, fits, groupable};
-use crate::{item_order, order, orderable, row_fits, same, same_row, same_type, sorting_order};
+use crate::{
+    Boxed, Items, Named, Rows, SortItem, SqlType, Text, Value, Values, all_fit, comparable,
+    compare_rows, copy_columns, copy_values, equal, fits, groupable, item_order, order, orderable,
+    row_fits, same, same_row, same_type, sorting_order,
+};
 use std::alloc::{AllocError, Global};
 use std::cmp::Ordering;
 use std::test::Fail;
@@ -45,7 +47,11 @@ fn values_fit_types(rt: HostRuntime) -> Result<(), Fail> {
         (Value::Int(1), SqlType::Uint32, false),
         (Value::Uint(4_294_967_295), SqlType::Uint32, true),
         (Value::Uint(4_294_967_296), SqlType::Uint32, false),
-        (Value::Uint(18_446_744_073_709_551_615), SqlType::Uint64, true),
+        (
+            Value::Uint(18_446_744_073_709_551_615),
+            SqlType::Uint64,
+            true
+        ),
         (Value::Uint(1), SqlType::Int64, false),
         (Value::Date(-719_162), SqlType::Date, true),
         (Value::Date(-719_163), SqlType::Date, false),
@@ -55,13 +61,41 @@ fn values_fit_types(rt: HostRuntime) -> Result<(), Fail> {
         (text(alloc, "a")?, SqlType::Bytes, false),
         (bytes(alloc, b"\xff")?, SqlType::Bytes, true),
         (bytes(alloc, b"a")?, SqlType::Text, false),
-        (array(vec![in alloc; Value::Int(1), Value::Null]?), array_type(alloc, SqlType::Int64)?, true),
-        (array(vec![in alloc; Value::Int(1), Value::Bool(true)]?), array_type(alloc, SqlType::Int64)?, false),
-        (fields(vec![in alloc; Value::Int(1), Value::Null]?), pair(alloc, None, SqlType::Text)?, true),
-        (fields(vec![in alloc; Value::Int(1)]?), pair(alloc, None, SqlType::Text)?, false),
-        (fields(vec![in alloc; Value::Int(1), Value::Null, Value::Null]?), pair(alloc, None, SqlType::Text)?, false),
-        (fields(vec![in alloc; Value::Null, Value::Int(1)]?), pair(alloc, None, SqlType::Text)?, false),
-        (array(vec![in alloc; Value::Int(1), Value::Null]?), pair(alloc, None, SqlType::Text)?, false),
+        (
+            array(vec![in alloc; Value::Int(1), Value::Null]?),
+            array_type(alloc, SqlType::Int64)?,
+            true
+        ),
+        (
+            array(vec![in alloc; Value::Int(1), Value::Bool(true)]?),
+            array_type(alloc, SqlType::Int64)?,
+            false
+        ),
+        (
+            fields(vec![in alloc; Value::Int(1), Value::Null]?),
+            pair(alloc, None, SqlType::Text)?,
+            true
+        ),
+        (
+            fields(vec![in alloc; Value::Int(1)]?),
+            pair(alloc, None, SqlType::Text)?,
+            false
+        ),
+        (
+            fields(vec![in alloc; Value::Int(1), Value::Null, Value::Null]?),
+            pair(alloc, None, SqlType::Text)?,
+            false
+        ),
+        (
+            fields(vec![in alloc; Value::Null, Value::Int(1)]?),
+            pair(alloc, None, SqlType::Text)?,
+            false
+        ),
+        (
+            array(vec![in alloc; Value::Int(1), Value::Null]?),
+            pair(alloc, None, SqlType::Text)?,
+            false
+        ),
     ]?;
     for (value, ty, want) in &cases {
         assert_eq!(rt; fits(value, ty), *want);
@@ -101,13 +135,48 @@ fn same_and_equal_values(rt: HostRuntime) -> Result<(), Fail> {
         (text(alloc, "ab")?, text(alloc, "ab")?, true, Some(true)),
         (text(alloc, "ab")?, text(alloc, "aB")?, false, Some(false)),
         (bytes(alloc, b"ab")?, bytes(alloc, b"ab")?, true, Some(true)),
-        (bytes(alloc, b"ab")?, bytes(alloc, b"a")?, false, Some(false)),
-        (array(vec![in alloc; Value::Int(1), Value::Null]?), array(vec![in alloc; Value::Int(1), Value::Null]?), true, None),
-        (array(vec![in alloc; Value::Int(1)]?), array(vec![in alloc; Value::Int(1), Value::Null]?), false, None),
-        (fields(vec![in alloc; Value::Int(1), Value::Int(2)]?), fields(vec![in alloc; Value::Int(1), Value::Int(2)]?), true, Some(true)),
-        (fields(vec![in alloc; Value::Int(1), Value::Null]?), fields(vec![in alloc; Value::Int(1), Value::Null]?), true, None),
-        (fields(vec![in alloc; Value::Null, Value::Int(1)]?), fields(vec![in alloc; Value::Null, Value::Int(2)]?), false, Some(false)),
-        (fields(vec![in alloc; Value::Int(1), Value::Null]?), fields(vec![in alloc; Value::Int(2), Value::Null]?), false, Some(false)),
+        (
+            bytes(alloc, b"ab")?,
+            bytes(alloc, b"a")?,
+            false,
+            Some(false)
+        ),
+        (
+            array(vec![in alloc; Value::Int(1), Value::Null]?),
+            array(vec![in alloc; Value::Int(1), Value::Null]?),
+            true,
+            None
+        ),
+        (
+            array(vec![in alloc; Value::Int(1)]?),
+            array(vec![in alloc; Value::Int(1), Value::Null]?),
+            false,
+            None
+        ),
+        (
+            fields(vec![in alloc; Value::Int(1), Value::Int(2)]?),
+            fields(vec![in alloc; Value::Int(1), Value::Int(2)]?),
+            true,
+            Some(true)
+        ),
+        (
+            fields(vec![in alloc; Value::Int(1), Value::Null]?),
+            fields(vec![in alloc; Value::Int(1), Value::Null]?),
+            true,
+            None
+        ),
+        (
+            fields(vec![in alloc; Value::Null, Value::Int(1)]?),
+            fields(vec![in alloc; Value::Null, Value::Int(2)]?),
+            false,
+            Some(false)
+        ),
+        (
+            fields(vec![in alloc; Value::Int(1), Value::Null]?),
+            fields(vec![in alloc; Value::Int(2), Value::Null]?),
+            false,
+            Some(false)
+        ),
     ]?;
     for (left, right, is_same, is_equal) in &cases {
         assert_eq!(rt; same(left, right), *is_same);
@@ -131,13 +200,21 @@ fn values_in_order(rt: HostRuntime) -> Result<(), Fail> {
         (Value::Int(-1), Value::Int(1), Ordering::Less),
         (Value::Int(2), Value::Int(-3), Ordering::Greater),
         (Value::Int(2), Value::Int(2), Ordering::Equal),
-        (Value::Uint(18_446_744_073_709_551_615), Value::Uint(1), Ordering::Greater),
+        (
+            Value::Uint(18_446_744_073_709_551_615),
+            Value::Uint(1),
+            Ordering::Greater
+        ),
         (Value::Date(-1), Value::Date(0), Ordering::Less),
         (text(alloc, "ab")?, text(alloc, "b")?, Ordering::Less),
         (text(alloc, "a")?, text(alloc, "ab")?, Ordering::Less),
         (text(alloc, "a")?, text(alloc, "Z")?, Ordering::Greater),
         (text(alloc, "")?, text(alloc, "")?, Ordering::Equal),
-        (bytes(alloc, b"\xff")?, bytes(alloc, b"\0\0")?, Ordering::Greater),
+        (
+            bytes(alloc, b"\xff")?,
+            bytes(alloc, b"\0\0")?,
+            Ordering::Greater
+        ),
         (bytes(alloc, b"\0")?, bytes(alloc, b"\0\0")?, Ordering::Less),
     ]?;
     for (left, right, want) in &cases {
@@ -162,9 +239,15 @@ fn items_turn_the_order(rt: HostRuntime) -> Result<(), Fail> {
             nulls_first,
         };
         assert_eq!(rt; item_order(&item, &Value::Null, &Value::Int(1)), null);
-        assert_eq!(rt; item_order(&item, &Value::Int(1), &Value::Null), null.reverse());
+        assert_eq!(rt;
+            item_order(&item, &Value::Int(1), &Value::Null),
+            null.reverse()
+        );
         assert_eq!(rt; item_order(&item, &Value::Int(1), &Value::Int(2)), numbers);
-        assert_eq!(rt; item_order(&item, &Value::Null, &Value::Null), Ordering::Equal);
+        assert_eq!(rt;
+            item_order(&item, &Value::Null, &Value::Null),
+            Ordering::Equal
+        );
     }
     Ok(())
 }
@@ -197,7 +280,11 @@ fn rows_in_order(rt: HostRuntime) -> Result<(), Fail> {
         assert_eq!(rt; sorting_order(&items, &left, &right), want);
     }
     assert_eq!(rt;
-        sorting_order(&items, &[Value::Null, Value::Bool(true)], &[Value::Null, Value::Int(1)]),
+        sorting_order(
+            &items,
+            &[Value::Null, Value::Bool(true)],
+            &[Value::Null, Value::Int(1)]
+        ),
         Ordering::Greater
     );
     Ok(())
@@ -218,8 +305,16 @@ fn types_that_compare(rt: HostRuntime) -> Result<(), Fail> {
         (SqlType::Date, true, true),
         (array_type(alloc, SqlType::Int64)?, false, false),
         (pair(alloc, None, SqlType::Date)?, true, false),
-        (pair(alloc, None, pair(alloc, None, SqlType::Text)?)?, true, false),
-        (pair(alloc, None, array_type(alloc, SqlType::Int64)?)?, false, false),
+        (
+            pair(alloc, None, pair(alloc, None, SqlType::Text)?)?,
+            true,
+            false
+        ),
+        (
+            pair(alloc, None, array_type(alloc, SqlType::Int64)?)?,
+            false,
+            false
+        ),
     ]?;
     for (ty, compares, orders) in &cases {
         assert_eq!(rt; comparable(ty), *compares);
@@ -237,14 +332,42 @@ fn types_that_are_the_same(rt: HostRuntime) -> Result<(), Fail> {
         (SqlType::Int64, SqlType::Int64, true),
         (SqlType::Int64, SqlType::Int32, false),
         (SqlType::Text, SqlType::Bytes, false),
-        (array_type(alloc, SqlType::Bool)?, array_type(alloc, SqlType::Bool)?, true),
-        (array_type(alloc, SqlType::Bool)?, array_type(alloc, SqlType::Date)?, false),
+        (
+            array_type(alloc, SqlType::Bool)?,
+            array_type(alloc, SqlType::Bool)?,
+            true
+        ),
+        (
+            array_type(alloc, SqlType::Bool)?,
+            array_type(alloc, SqlType::Date)?,
+            false
+        ),
         (array_type(alloc, SqlType::Bool)?, SqlType::Bool, false),
-        (pair(alloc, Some("a"), SqlType::Bool)?, pair(alloc, Some("A"), SqlType::Bool)?, true),
-        (pair(alloc, Some("a"), SqlType::Bool)?, pair(alloc, Some("b"), SqlType::Bool)?, false),
-        (pair(alloc, Some("a"), SqlType::Bool)?, pair(alloc, None, SqlType::Bool)?, false),
-        (pair(alloc, None, SqlType::Bool)?, pair(alloc, None, SqlType::Bool)?, true),
-        (pair(alloc, None, SqlType::Bool)?, pair(alloc, None, SqlType::Date)?, false),
+        (
+            pair(alloc, Some("a"), SqlType::Bool)?,
+            pair(alloc, Some("A"), SqlType::Bool)?,
+            true
+        ),
+        (
+            pair(alloc, Some("a"), SqlType::Bool)?,
+            pair(alloc, Some("b"), SqlType::Bool)?,
+            false
+        ),
+        (
+            pair(alloc, Some("a"), SqlType::Bool)?,
+            pair(alloc, None, SqlType::Bool)?,
+            false
+        ),
+        (
+            pair(alloc, None, SqlType::Bool)?,
+            pair(alloc, None, SqlType::Bool)?,
+            true
+        ),
+        (
+            pair(alloc, None, SqlType::Bool)?,
+            pair(alloc, None, SqlType::Date)?,
+            false
+        ),
     ]?;
     for (left, right, want) in &cases {
         assert_eq!(rt; same_type(left, right), *want);
@@ -277,7 +400,11 @@ fn array_type(alloc: Global, element: SqlType) -> Result<SqlType, AllocError> {
 }
 
 /// An unnamed INT64, and then a column of this name and type.
-fn columns(alloc: Global, name: Option<&str>, ty: SqlType) -> Result<Items<Named<SqlType>>, AllocError> {
+fn columns(
+    alloc: Global,
+    name: Option<&str>,
+    ty: SqlType,
+) -> Result<Items<Named<SqlType>>, AllocError> {
     let name = match name {
         None => None,
         Some(name) => Some(Text::copy_of(alloc, name)?),

@@ -16,12 +16,12 @@ same_type-returns-in-Array-right t c =
     ∙ ap (λ z. same_type z c.get-in-Array-right.result.now) c.get.ensures
     ∙ ap (same_type c.in-Array.element) c.get-in-Array-right.ensures
     ∙ sym (by_parts c.args.left.now c.args.right.now (layer.Array c.in-Array.element) (layer.Array c.in-Array-right.other)
-      (ap out-SqlType c.in-Array.is ∙ ty.outs-Array c.in-Array.element)
-      (ap out-SqlType c.in-Array-right.is ∙ ty.outs-Array c.in-Array-right.other))
+    (ap out-SqlType c.in-Array.is ∙ ty.outs-Array c.in-Array.element)
+    (ap out-SqlType c.in-Array-right.is ∙ ty.outs-Array c.in-Array-right.other))
 
 pub same_type-returns-in-Struct-right : goal.same_type-returns-in-Struct-right
 same_type-returns-in-Struct-right t c =
     c.same_fields.ensures
     ∙ sym (by_parts c.args.left.now c.args.right.now (layer.Struct c.in-Struct.fields) (layer.Struct c.in-Struct-right.others)
-      (ap out-SqlType c.in-Struct.is ∙ ty.outs-Struct c.in-Struct.fields)
-      (ap out-SqlType c.in-Struct-right.is ∙ ty.outs-Struct c.in-Struct-right.others))
+    (ap out-SqlType c.in-Struct.is ∙ ty.outs-Struct c.in-Struct.fields)
+    (ap out-SqlType c.in-Struct-right.is ∙ ty.outs-Struct c.in-Struct-right.others))
