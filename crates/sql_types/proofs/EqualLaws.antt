@@ -1,6 +1,5 @@
 -- Equality is symmetric, and a value that holds no NULL is equal to itself.
-use Rattle.std.proofs.Common.{◌≡◌, ℕ, ℤ, pos, negsuc, int_le, Bool, true, false, ◌&&◌, ◌||◌, List, [], ◌∷◌, map, Option, None, Some, refl, ap, sym, ◌∙◌, subst, arith}
-use Rattle.std.specs.Bool.{◌==◌}
+use Rattle.std.proofs.Common.{◌≡◌, ℕ, ℤ, pos, negsuc, int_le, Bool, true, false, ◌&&◌, List, [], ◌∷◌, map, Some, refl, ap, sym, ◌∙◌, subst, arith}
 use Rattle.std.specs.Str.{bytes_eq}
 use Rattle.std.proofs.lemmas.Bool.{false≢true}
 use Rattle.std.proofs.lemmas.Bool.Decides.{nat_tests, same_from_decides}
@@ -9,13 +8,13 @@ use Rattle.std.proofs.lemmas.Slice.Eq.{bytes_eq-Decides}
 use Rattle.sql_types.specs.declared.sql_type.Named.{Named}
 use Rattle.sql_types.specs.declared.sql_type.SqlType.{SqlType, out-SqlType}
 use Rattle.sql_types.specs.declared.sql_type.SqlType.TheOpen as t
-use Rattle.sql_types.specs.declared.value.Value.{Value, map-Value, out-Value, roll-Value, roll-out-Value, out-roll-Value, fold-Value, fold-roll-Value, ind-Value}
+use Rattle.sql_types.specs.declared.value.Value.{Value, map-Value, out-Value, roll-Value, roll-out-Value, out-roll-Value, fold-roll-Value, ind-Value}
 use Rattle.sql_types.specs.declared.value.Value.TheOpen as v
 use Rattle.sql_types.specs.Same.{equal, equal_fields, both_true}
 use Rattle.sql_types.specs.Fits.{fits, fits_row}
 use Rattle.sql_types.specs.Comparable.{comparable, all_comparable}
 use Rattle.sql_types.specs.Nulls.{holds_null, null_layer, some_true}
-use Rattle.sql_types.proofs.Tests.{first, second, neither_first, neither_second}
+use Rattle.sql_types.proofs.TestParts.{first, second, neither_first, neither_second}
 use Rattle.sql_types.proofs.ValueOpens.{equal_opens, equal_at, fits_opens, fits_at}
 use Rattle.sql_types.proofs.TypeOpens.{comparable_opens, comparable_at}
 

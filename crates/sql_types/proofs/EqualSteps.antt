@@ -1,7 +1,5 @@
 -- AND over the fields of a STRUCT, one field at a time.
-use Rattle.std.proofs.Common.{◌≡◌, Bool, true, false, List, [], ◌∷◌, map, Option, None, Some, refl, ap, sym, ◌∙◌}
-use Rattle.sql_types.specs.declared.value.Value.{Value}
-use Rattle.sql_types.specs.Same.{equal, equal_fields, both_true}
+use Rattle.std.proofs.Common.{Bool, true, false, Option, None, Some}
 
 -- what the fields so far say, none of which is FALSE: by whether one was NULL
 abbrev pub so_far : Bool → Option Bool

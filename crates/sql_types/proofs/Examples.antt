@@ -1,18 +1,18 @@
 -- Worked examples of the definitions.
-use Rattle.std.proofs.Common.{◌≡◌, ℕ, ◌<◌, ℤ, pos, Bool, true, false, List, [], ◌∷◌, Option, None, Some, Ok, Err, inl, inr, refl, ap, sym, ◌∙◌, arith}
+use Rattle.std.proofs.Common.{◌≡◌, ℕ, pos, true, false, List, [], ◌∷◌, None, Some, Ok, Err, inl, inr, refl, arith}
 use Rattle.sql_types.specs.declared.fault.FaultKind.TheVariants.{DivisionByZero}
 use Rattle.sql_types.specs.declared.kinds.JoinKind.TheVariants as join
 use Rattle.sql_types.specs.declared.kinds.SetKind.TheVariants as set
-use Rattle.sql_types.specs.declared.value.Value.{Value, out-Value}
-use Rattle.sql_types.specs.declared.value.Value.TheVariants.{Null, Int, Bool as Truth, outs-Null, outs-Int}
+use Rattle.sql_types.specs.declared.value.Value.{Value}
+use Rattle.sql_types.specs.declared.value.Value.TheVariants.{Null, Int, Bool as Truth}
 use Rattle.sql_types.specs.Outcome.{just}
 use Rattle.sql_types.specs.Same.{both_true}
 use Rattle.sql_types.specs.Logic.{opposite, either_true, all_true, any_true, Decided, one_decides, one_of_faults}
-use Rattle.sql_types.specs.Joined.{Pairs, joined, Joined}
-use Rattle.sql_types.specs.Parted.{Group, Parted}
+use Rattle.sql_types.specs.Joined.{Pairs, Joined}
+use Rattle.sql_types.specs.Parted.{Parted}
 use Rattle.sql_types.specs.Combined.{Counted, counted_none, counted_same, counted_other, combined_count, Combined}
 use Rattle.sql_types.specs.Arranged.{permutes_skip, permutes_swap}
-use Rattle.sql_types.specs.Cut.{cut, Cut}
+use Rattle.sql_types.specs.Cut.{Cut}
 
 -- ---- joins: of the left rows 1 and 2 and the right rows 7 and 8 the pair of 1 and 7 is kept
 

@@ -5,7 +5,7 @@ pub mod TypeOpens
 pub mod ValueOpens
 pub mod SameLaws
 pub mod EqualSteps
-pub mod Tests
+pub mod TestParts
 pub mod EqualLaws
 pub mod OrderLaws
 mod Examples

@@ -1,6 +1,5 @@
 -- The order of values and of rows is a total order where it orders all values, and on rows of one table it is ORDER BY's.
-use Rattle.std.proofs.Common.{◌≡◌, ℕ, zero, suc, ℤ, pos, Bool, true, false, ◌&&◌, List, [], ◌∷◌, nat_lt, int_lt, refl, ap, sym, ◌∙◌, subst, arith, slice_index_or}
-use Rattle.std.specs.Bool.{◌==◌}
+use Rattle.std.proofs.Common.{◌≡◌, ℕ, zero, suc, ℤ, pos, Bool, true, false, List, [], ◌∷◌, refl, ap, sym, ◌∙◌, subst, arith, slice_index_or}
 use Rattle.std.specs.Cmp.{IsTotalOrder, IsStrictWeakOrder}
 use Rattle.std.specs.Cmp.Lexicographic.{slice_cmp}
 use Rattle.std.specs.Ordering.{nat_cmp, int_cmp, ordering_then, ordering_reverse, then_cmp, flip_args, on, is_lt}
@@ -18,11 +17,11 @@ use Rattle.sql_types.specs.declared.sql_type.SqlType.TheOpen as t
 use Rattle.sql_types.specs.declared.value.Value.{Value, out-Value}
 use Rattle.sql_types.specs.declared.value.Value.TheVariants.{Null, outs-Null}
 use Rattle.sql_types.specs.declared.value.Value.TheOpen as v
-use Rattle.sql_types.specs.Before.{truth_order, value_order, order, flipped, directed, null_order, is_null, placed, item_order, row_order, then_by, rows_order}
+use Rattle.sql_types.specs.Before.{value_order, order, flipped, directed, null_order, is_null, placed, item_order, row_order, then_by, rows_order}
 use Rattle.sql_types.specs.Fits.{fits, fits_row}
 use Rattle.sql_types.specs.Comparable.{orderable, orderable_layer}
 use Rattle.sql_types.proofs.ValueOpens.{fits_opens, fits_at}
-use Rattle.sql_types.proofs.Tests.{first, second}
+use Rattle.sql_types.proofs.TestParts.{first, second}
 use Rattle.sql_types.specs.Sorting.{kind, whole_value_order, whole_order, whole_item_order, whole_row_order, whole_rows_order, orders_column, orders_columns}
 
 -- ---- an order by another name

@@ -1,7 +1,7 @@
 -- Types that compare, and types that are the same, one level at a time.
 use Rattle.std.proofs.Common.{◌≡◌, Bool, true, false, ◌&&◌, List, [], ◌∷◌, map, refl, ap, sym, ◌∙◌}
 use Rattle.sql_types.specs.declared.sql_type.Named.{Named}
-use Rattle.sql_types.specs.declared.sql_type.SqlType.{SqlType, map-SqlType, out-SqlType, roll-out-SqlType, fold-SqlType, fold-roll-SqlType}
+use Rattle.sql_types.specs.declared.sql_type.SqlType.{SqlType, map-SqlType, out-SqlType, roll-out-SqlType, fold-roll-SqlType}
 use Rattle.sql_types.specs.declared.sql_type.SqlType.TheOpen as t
 use Rattle.sql_types.specs.declared.sql_type.SqlType.TheShapes as shapes
 use Rattle.sql_types.specs.Comparable.{comparable, comparable_layer, all_fields, all_comparable}

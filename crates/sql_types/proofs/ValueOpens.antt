@@ -1,19 +1,18 @@
 -- What fits a type, when values are equal, one level at a time.
-use Rattle.std.proofs.Common.{◌≡◌, Bool, true, false, ◌&&◌, List, [], ◌∷◌, map, refl, ap, sym, ◌∙◌, nat_lt, Option}
+use Rattle.std.proofs.Common.{◌≡◌, Bool, true, false, ◌&&◌, List, [], ◌∷◌, map, refl, ap, sym, ◌∙◌, Option}
 use Rattle.std.specs.List.{list_all}
-use Rattle.std.specs.Str.{is_utf8}
 use Rattle.sql_types.specs.declared.sql_type.Named.{Named}
 use Rattle.sql_types.specs.declared.sql_type.SqlType.{SqlType, map-SqlType, out-SqlType}
 use Rattle.sql_types.specs.declared.sql_type.SqlType.TheOpen as t
 use Rattle.sql_types.specs.declared.sql_type.SqlType.TheShapes as shapes
-use Rattle.sql_types.specs.declared.value.Value.{Value, map-Value, out-Value, roll-out-Value, fold-Value, fold-roll-Value}
+use Rattle.sql_types.specs.declared.value.Value.{Value, map-Value, out-Value, roll-out-Value, fold-roll-Value}
 use Rattle.sql_types.specs.declared.value.Value.TheOpen as v
 use Rattle.std.specs.Bool.{◌==◌, beq}
 use Rattle.std.specs.Ordering.{int_eq}
 use Rattle.std.specs.Str.{bytes_eq}
 use Rattle.sql_types.specs.Same.{equal, equal_layer, equal_fields}
 use Rattle.sql_types.specs.SameValue.{same_value, same_values, same_layer, same_parts}
-use Rattle.sql_types.specs.Fits.{fits, fits_layer, fits_fields, fits_row, within, is_day}
+use Rattle.sql_types.specs.Fits.{fits, fits_layer, fits_fields, fits_row}
 use Rattle.sql_types.proofs.Opens.{fits-opens}
 
 -- the parts of the type stand as they are

@@ -1,8 +1,8 @@
 -- Values of one kind are equal where their parts are.
-use Rattle.std.proofs.Common.{◌≡◌, Bool, true, false, Option, Some, refl, ap, sym, ◌∙◌}
+use Rattle.std.proofs.Common.{◌≡◌, Bool, true, false, Some, refl, ap, sym, ◌∙◌}
 use Rattle.std.specs.Bool.{beq}
 use Rattle.std.specs.Str.{bytes_eq}
-use Rattle.sql_types.specs.declared.value.Value.{Value, out-Value}
+use Rattle.sql_types.specs.declared.value.Value.{out-Value}
 use Rattle.sql_types.specs.declared.value.Value.TheVariants as value
 use Rattle.sql_types.specs.declared.value.Value.TheOpen as part
 use Rattle.sql_types.proofs.ValueOpens.{equal_by, equal_at}

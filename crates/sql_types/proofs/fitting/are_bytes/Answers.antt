@@ -1,5 +1,5 @@
 -- Each byte of a slice is below 256.
-use Rattle.std.proofs.Common.{◌≡◌, ℕ, zero, suc, ◌<◌, true, List, [], ◌∷◌, length, slice_index_or, nat_lt, refl, sym, arith, lt-ltb}
+use Rattle.std.proofs.Common.{◌≡◌, ℕ, suc, ◌<◌, true, List, [], ◌∷◌, slice_index_or, nat_lt, refl, sym, arith, lt-ltb}
 use Rattle.std.specs.List.{list_all}
 use Rattle.sql_types.proofs.fitting.are_bytes.Goals as goal
 

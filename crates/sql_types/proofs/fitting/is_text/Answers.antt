@@ -1,6 +1,5 @@
 -- The bytes of a text are UTF-8.
-use Rattle.std.proofs.Common.{ap, sym, ◌∙◌}
-use Rattle.std.specs.Str.{is_utf8}
+use Rattle.std.proofs.Common.{sym}
 use Rattle.std.proofs.lemmas.Str.{is_utf8-from_IsUtf8}
 use Rattle.sql_types.proofs.fitting.is_text.Goals as goal
 

@@ -1,5 +1,5 @@
 -- ARRAYs are the same where their element types are, and STRUCTs where their fields are.
-use Rattle.std.proofs.Common.{◌≡◌, Bool, refl, ap, sym, ◌∙◌, subst}
+use Rattle.std.proofs.Common.{◌≡◌, ap, sym, ◌∙◌}
 use Rattle.sql_types.specs.declared.sql_type.SqlType.{SqlType, out-SqlType}
 use Rattle.sql_types.specs.declared.sql_type.SqlType.TheVariants as ty
 use Rattle.sql_types.specs.declared.sql_type.SqlType.TheOpen as layer
