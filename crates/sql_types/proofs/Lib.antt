@@ -9,3 +9,4 @@ pub mod TestParts
 pub mod EqualLaws
 pub mod OrderLaws
 mod Examples
+pub mod ArrangedLaws
