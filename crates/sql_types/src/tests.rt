@@ -1,8 +1,8 @@
 //! Rows, copies, and the calls that compare and test values and types.
 use crate::{
-    Boxed, Items, Named, Rows, SortItem, SqlType, Text, Value, Values, all_fit, comparable,
-    compare_rows, copy_columns, copy_values, equal, fits, groupable, item_order, order, orderable,
-    row_fits, same, same_row, same_type, sorting_order,
+    Boxed, Columns, Items, Named, Rows, SortItem, SqlType, Text, Value, Values, all_fit,
+    comparable, compare_rows, copy_columns, copy_values, equal, fits, groupable, item_order, order,
+    orderable, row_fits, same, same_row, same_type, sorting_order,
 };
 use std::alloc::{AllocError, Global};
 use std::cmp::Ordering;
@@ -30,195 +30,212 @@ fn rows_and_copies(rt: HostRuntime) -> Result<(), Fail> {
     Ok(())
 }
 
+/// A value as it is written in a table.
+#[derive(Clone, Copy)]
+enum Plain {
+    Null,
+    Bool(bool),
+    Int(i64),
+    Uint(u64),
+    Date(i32),
+    Text(&'static str),
+    Bytes(&'static [u8]),
+    Array(&'static [Plain]),
+    Struct(&'static [Plain]),
+}
+
+/// A type as it is written in a table. A pair is a STRUCT of an unnamed INT64 and a field of this name and type.
+#[derive(Clone, Copy)]
+enum Form {
+    Bool,
+    Int32,
+    Int64,
+    Uint32,
+    Uint64,
+    Text,
+    Bytes,
+    Date,
+    Array(&'static Form),
+    Pair(Option<&'static str>, &'static Form),
+}
+
 /// A value, a type, and whether the one fits the other.
+const FITS: [(Plain, Form, bool); 29] = [
+    (Plain::Null, Form::Date, true),
+    (Plain::Null, Form::Array(&Form::Int64), true),
+    (Plain::Bool(true), Form::Bool, true),
+    (Plain::Bool(true), Form::Int64, false),
+    (Plain::Int(-2_147_483_648), Form::Int32, true),
+    (Plain::Int(-2_147_483_649), Form::Int32, false),
+    (Plain::Int(2_147_483_647), Form::Int32, true),
+    (Plain::Int(2_147_483_648), Form::Int32, false),
+    (Plain::Int(-9_223_372_036_854_775_808), Form::Int64, true),
+    (Plain::Int(1), Form::Uint32, false),
+    (Plain::Uint(4_294_967_295), Form::Uint32, true),
+    (Plain::Uint(4_294_967_296), Form::Uint32, false),
+    (Plain::Uint(18_446_744_073_709_551_615), Form::Uint64, true),
+    (Plain::Uint(1), Form::Int64, false),
+    (Plain::Date(-719_162), Form::Date, true),
+    (Plain::Date(-719_163), Form::Date, false),
+    (Plain::Date(2_932_896), Form::Date, true),
+    (Plain::Date(2_932_897), Form::Date, false),
+    (Plain::Text("h\u{e9}"), Form::Text, true),
+    (Plain::Text("a"), Form::Bytes, false),
+    (Plain::Bytes(b"\xff"), Form::Bytes, true),
+    (Plain::Bytes(b"a"), Form::Text, false),
+    (
+        Plain::Array(&[Plain::Int(1), Plain::Null]),
+        Form::Array(&Form::Int64),
+        true,
+    ),
+    (
+        Plain::Array(&[Plain::Int(1), Plain::Bool(true)]),
+        Form::Array(&Form::Int64),
+        false,
+    ),
+    (
+        Plain::Struct(&[Plain::Int(1), Plain::Null]),
+        Form::Pair(None, &Form::Text),
+        true,
+    ),
+    (
+        Plain::Struct(&[Plain::Int(1)]),
+        Form::Pair(None, &Form::Text),
+        false,
+    ),
+    (
+        Plain::Struct(&[Plain::Int(1), Plain::Null, Plain::Null]),
+        Form::Pair(None, &Form::Text),
+        false,
+    ),
+    (
+        Plain::Struct(&[Plain::Null, Plain::Int(1)]),
+        Form::Pair(None, &Form::Text),
+        false,
+    ),
+    (
+        Plain::Array(&[Plain::Int(1), Plain::Null]),
+        Form::Pair(None, &Form::Text),
+        false,
+    ),
+];
+
 #[test]
 fn values_fit_types(rt: HostRuntime) -> Result<(), Fail> {
     let alloc = rt.alloc();
-    let cases = vec![in alloc;
-        (Value::Null, SqlType::Date, true),
-        (Value::Null, array_type(alloc, SqlType::Int64)?, true),
-        (Value::Bool(true), SqlType::Bool, true),
-        (Value::Bool(true), SqlType::Int64, false),
-        (Value::Int(-2_147_483_648), SqlType::Int32, true),
-        (Value::Int(-2_147_483_649), SqlType::Int32, false),
-        (Value::Int(2_147_483_647), SqlType::Int32, true),
-        (Value::Int(2_147_483_648), SqlType::Int32, false),
-        (Value::Int(-9_223_372_036_854_775_808), SqlType::Int64, true),
-        (Value::Int(1), SqlType::Uint32, false),
-        (Value::Uint(4_294_967_295), SqlType::Uint32, true),
-        (Value::Uint(4_294_967_296), SqlType::Uint32, false),
-        (
-            Value::Uint(18_446_744_073_709_551_615),
-            SqlType::Uint64,
-            true
-        ),
-        (Value::Uint(1), SqlType::Int64, false),
-        (Value::Date(-719_162), SqlType::Date, true),
-        (Value::Date(-719_163), SqlType::Date, false),
-        (Value::Date(2_932_896), SqlType::Date, true),
-        (Value::Date(2_932_897), SqlType::Date, false),
-        (text(alloc, "h\u{e9}")?, SqlType::Text, true),
-        (text(alloc, "a")?, SqlType::Bytes, false),
-        (bytes(alloc, b"\xff")?, SqlType::Bytes, true),
-        (bytes(alloc, b"a")?, SqlType::Text, false),
-        (
-            array(vec![in alloc; Value::Int(1), Value::Null]?),
-            array_type(alloc, SqlType::Int64)?,
-            true
-        ),
-        (
-            array(vec![in alloc; Value::Int(1), Value::Bool(true)]?),
-            array_type(alloc, SqlType::Int64)?,
-            false
-        ),
-        (
-            fields(vec![in alloc; Value::Int(1), Value::Null]?),
-            pair(alloc, None, SqlType::Text)?,
-            true
-        ),
-        (
-            fields(vec![in alloc; Value::Int(1)]?),
-            pair(alloc, None, SqlType::Text)?,
-            false
-        ),
-        (
-            fields(vec![in alloc; Value::Int(1), Value::Null, Value::Null]?),
-            pair(alloc, None, SqlType::Text)?,
-            false
-        ),
-        (
-            fields(vec![in alloc; Value::Null, Value::Int(1)]?),
-            pair(alloc, None, SqlType::Text)?,
-            false
-        ),
-        (
-            array(vec![in alloc; Value::Int(1), Value::Null]?),
-            pair(alloc, None, SqlType::Text)?,
-            false
-        ),
-    ]?;
-    for (value, ty, want) in &cases {
-        assert_eq!(rt; fits(value, ty), *want);
+    for (plain, form, want) in FITS {
+        assert_eq!(rt; fits(&value(alloc, &plain)?, &type_of(alloc, &form)?), want);
     }
-    Ok(())
-}
-
-/// A row of values for an INT64 and a DATE.
-#[test]
-fn rows_fit_columns(rt: HostRuntime) -> Result<(), Fail> {
-    let alloc = rt.alloc();
     let columns = columns(alloc, None, SqlType::Date)?;
-    let row = values(vec![in alloc; Value::Int(1), Value::Date(0)]?);
+    let row = values(alloc, &[Plain::Int(1), Plain::Date(0)])?;
     assert!(rt; row_fits(&row, &columns));
     assert!(rt; !all_fit(&row, &SqlType::Int64));
-    let short = values(vec![in alloc; Value::Int(1)]?);
+    let short = values(alloc, &[Plain::Int(1)])?;
     assert!(rt; !row_fits(&short, &columns));
     assert!(rt; all_fit(&short, &SqlType::Int64));
     Ok(())
 }
 
 /// Two values, whether they are the same, and whether they are equal, NULL being `None`.
+const PAIRS: [(Plain, Plain, bool, Option<bool>); 20] = [
+    (Plain::Null, Plain::Null, true, None),
+    (Plain::Null, Plain::Int(1), false, None),
+    (Plain::Bool(true), Plain::Bool(true), true, Some(true)),
+    (Plain::Bool(true), Plain::Bool(false), false, Some(false)),
+    (Plain::Int(-1), Plain::Int(-1), true, Some(true)),
+    (Plain::Int(1), Plain::Int(-1), false, Some(false)),
+    (Plain::Uint(1), Plain::Uint(1), true, Some(true)),
+    (Plain::Uint(1), Plain::Uint(2), false, Some(false)),
+    (Plain::Date(1), Plain::Date(1), true, Some(true)),
+    (Plain::Date(1), Plain::Date(2), false, Some(false)),
+    (Plain::Text("ab"), Plain::Text("ab"), true, Some(true)),
+    (Plain::Text("ab"), Plain::Text("aB"), false, Some(false)),
+    (Plain::Bytes(b"ab"), Plain::Bytes(b"ab"), true, Some(true)),
+    (Plain::Bytes(b"ab"), Plain::Bytes(b"a"), false, Some(false)),
+    (
+        Plain::Array(&[Plain::Null]),
+        Plain::Array(&[Plain::Null]),
+        true,
+        None,
+    ),
+    (
+        Plain::Array(&[Plain::Int(1)]),
+        Plain::Array(&[Plain::Int(1), Plain::Null]),
+        false,
+        None,
+    ),
+    (
+        Plain::Struct(&[Plain::Int(1), Plain::Int(2)]),
+        Plain::Struct(&[Plain::Int(1), Plain::Int(2)]),
+        true,
+        Some(true),
+    ),
+    (
+        Plain::Struct(&[Plain::Int(1), Plain::Null]),
+        Plain::Struct(&[Plain::Int(1), Plain::Null]),
+        true,
+        None,
+    ),
+    (
+        Plain::Struct(&[Plain::Null, Plain::Int(1)]),
+        Plain::Struct(&[Plain::Null, Plain::Int(2)]),
+        false,
+        Some(false),
+    ),
+    (
+        Plain::Struct(&[Plain::Int(1), Plain::Null]),
+        Plain::Struct(&[Plain::Int(2), Plain::Null]),
+        false,
+        Some(false),
+    ),
+];
+
 #[test]
 fn same_and_equal_values(rt: HostRuntime) -> Result<(), Fail> {
     let alloc = rt.alloc();
-    let cases = vec![in alloc;
-        (Value::Null, Value::Null, true, None),
-        (Value::Null, Value::Int(1), false, None),
-        (Value::Bool(true), Value::Bool(true), true, Some(true)),
-        (Value::Bool(true), Value::Bool(false), false, Some(false)),
-        (Value::Int(-1), Value::Int(-1), true, Some(true)),
-        (Value::Int(1), Value::Int(-1), false, Some(false)),
-        (Value::Uint(1), Value::Uint(1), true, Some(true)),
-        (Value::Uint(1), Value::Uint(2), false, Some(false)),
-        (Value::Date(1), Value::Date(1), true, Some(true)),
-        (Value::Date(1), Value::Date(2), false, Some(false)),
-        (text(alloc, "ab")?, text(alloc, "ab")?, true, Some(true)),
-        (text(alloc, "ab")?, text(alloc, "aB")?, false, Some(false)),
-        (bytes(alloc, b"ab")?, bytes(alloc, b"ab")?, true, Some(true)),
-        (
-            bytes(alloc, b"ab")?,
-            bytes(alloc, b"a")?,
-            false,
-            Some(false)
-        ),
-        (
-            array(vec![in alloc; Value::Int(1), Value::Null]?),
-            array(vec![in alloc; Value::Int(1), Value::Null]?),
-            true,
-            None
-        ),
-        (
-            array(vec![in alloc; Value::Int(1)]?),
-            array(vec![in alloc; Value::Int(1), Value::Null]?),
-            false,
-            None
-        ),
-        (
-            fields(vec![in alloc; Value::Int(1), Value::Int(2)]?),
-            fields(vec![in alloc; Value::Int(1), Value::Int(2)]?),
-            true,
-            Some(true)
-        ),
-        (
-            fields(vec![in alloc; Value::Int(1), Value::Null]?),
-            fields(vec![in alloc; Value::Int(1), Value::Null]?),
-            true,
-            None
-        ),
-        (
-            fields(vec![in alloc; Value::Null, Value::Int(1)]?),
-            fields(vec![in alloc; Value::Null, Value::Int(2)]?),
-            false,
-            Some(false)
-        ),
-        (
-            fields(vec![in alloc; Value::Int(1), Value::Null]?),
-            fields(vec![in alloc; Value::Int(2), Value::Null]?),
-            false,
-            Some(false)
-        ),
-    ]?;
-    for (left, right, is_same, is_equal) in &cases {
-        assert_eq!(rt; same(left, right), *is_same);
-        assert_eq!(rt; equal(left, right), *is_equal);
+    for (left, right, is_same, is_equal) in PAIRS {
+        let (left, right) = (value(alloc, &left)?, value(alloc, &right)?);
+        assert_eq!(rt; same(&left, &right), is_same);
+        assert_eq!(rt; equal(&left, &right), is_equal);
     }
-    let row = values(vec![in alloc; Value::Int(1), Value::Null]?);
-    let longer = values(vec![in alloc; Value::Int(1), Value::Null, Value::Null]?);
+    let row = values(alloc, &[Plain::Int(1), Plain::Null])?;
+    let longer = values(alloc, &[Plain::Int(1), Plain::Null, Plain::Null])?;
     assert!(rt; same_row(&row, &row));
     assert!(rt; !same_row(&row, &longer));
     Ok(())
 }
 
 /// Two values and their order.
+const ORDERS: [(Plain, Plain, Ordering); 14] = [
+    (Plain::Bool(false), Plain::Bool(true), Ordering::Less),
+    (Plain::Bool(true), Plain::Bool(false), Ordering::Greater),
+    (Plain::Bool(true), Plain::Bool(true), Ordering::Equal),
+    (Plain::Int(-1), Plain::Int(1), Ordering::Less),
+    (Plain::Int(2), Plain::Int(-3), Ordering::Greater),
+    (Plain::Int(2), Plain::Int(2), Ordering::Equal),
+    (
+        Plain::Uint(18_446_744_073_709_551_615),
+        Plain::Uint(1),
+        Ordering::Greater,
+    ),
+    (Plain::Date(-1), Plain::Date(0), Ordering::Less),
+    (Plain::Text("ab"), Plain::Text("b"), Ordering::Less),
+    (Plain::Text("a"), Plain::Text("ab"), Ordering::Less),
+    (Plain::Text("a"), Plain::Text("Z"), Ordering::Greater),
+    (Plain::Text(""), Plain::Text(""), Ordering::Equal),
+    (
+        Plain::Bytes(b"\xff"),
+        Plain::Bytes(b"\0\0"),
+        Ordering::Greater,
+    ),
+    (Plain::Bytes(b"\0"), Plain::Bytes(b"\0\0"), Ordering::Less),
+];
+
 #[test]
 fn values_in_order(rt: HostRuntime) -> Result<(), Fail> {
     let alloc = rt.alloc();
-    let cases = vec![in alloc;
-        (Value::Bool(false), Value::Bool(true), Ordering::Less),
-        (Value::Bool(true), Value::Bool(false), Ordering::Greater),
-        (Value::Bool(true), Value::Bool(true), Ordering::Equal),
-        (Value::Int(-1), Value::Int(1), Ordering::Less),
-        (Value::Int(2), Value::Int(-3), Ordering::Greater),
-        (Value::Int(2), Value::Int(2), Ordering::Equal),
-        (
-            Value::Uint(18_446_744_073_709_551_615),
-            Value::Uint(1),
-            Ordering::Greater
-        ),
-        (Value::Date(-1), Value::Date(0), Ordering::Less),
-        (text(alloc, "ab")?, text(alloc, "b")?, Ordering::Less),
-        (text(alloc, "a")?, text(alloc, "ab")?, Ordering::Less),
-        (text(alloc, "a")?, text(alloc, "Z")?, Ordering::Greater),
-        (text(alloc, "")?, text(alloc, "")?, Ordering::Equal),
-        (
-            bytes(alloc, b"\xff")?,
-            bytes(alloc, b"\0\0")?,
-            Ordering::Greater
-        ),
-        (bytes(alloc, b"\0")?, bytes(alloc, b"\0\0")?, Ordering::Less),
-    ]?;
-    for (left, right, want) in &cases {
-        assert_eq!(rt; order(left, right), *want);
+    for (left, right, want) in ORDERS {
+        assert_eq!(rt; order(&value(alloc, &left)?, &value(alloc, &right)?), want);
     }
     Ok(())
 }
@@ -291,120 +308,129 @@ fn rows_in_order(rt: HostRuntime) -> Result<(), Fail> {
 }
 
 /// A type, whether it is comparable and groupable, and whether it is orderable.
+const TYPES: [(Form, bool, bool); 12] = [
+    (Form::Bool, true, true),
+    (Form::Int32, true, true),
+    (Form::Int64, true, true),
+    (Form::Uint32, true, true),
+    (Form::Uint64, true, true),
+    (Form::Text, true, true),
+    (Form::Bytes, true, true),
+    (Form::Date, true, true),
+    (Form::Array(&Form::Int64), false, false),
+    (Form::Pair(None, &Form::Date), true, false),
+    (
+        Form::Pair(None, &Form::Pair(None, &Form::Text)),
+        true,
+        false,
+    ),
+    (Form::Pair(None, &Form::Array(&Form::Int64)), false, false),
+];
+
 #[test]
 fn types_that_compare(rt: HostRuntime) -> Result<(), Fail> {
     let alloc = rt.alloc();
-    let cases = vec![in alloc;
-        (SqlType::Bool, true, true),
-        (SqlType::Int32, true, true),
-        (SqlType::Int64, true, true),
-        (SqlType::Uint32, true, true),
-        (SqlType::Uint64, true, true),
-        (SqlType::Text, true, true),
-        (SqlType::Bytes, true, true),
-        (SqlType::Date, true, true),
-        (array_type(alloc, SqlType::Int64)?, false, false),
-        (pair(alloc, None, SqlType::Date)?, true, false),
-        (
-            pair(alloc, None, pair(alloc, None, SqlType::Text)?)?,
-            true,
-            false
-        ),
-        (
-            pair(alloc, None, array_type(alloc, SqlType::Int64)?)?,
-            false,
-            false
-        ),
-    ]?;
-    for (ty, compares, orders) in &cases {
-        assert_eq!(rt; comparable(ty), *compares);
-        assert_eq!(rt; groupable(ty), *compares);
-        assert_eq!(rt; orderable(ty), *orders);
+    for (form, compares, orders) in TYPES {
+        let ty = type_of(alloc, &form)?;
+        assert_eq!(rt; comparable(&ty), compares);
+        assert_eq!(rt; groupable(&ty), compares);
+        assert_eq!(rt; orderable(&ty), orders);
     }
     Ok(())
 }
 
 /// Two types, and whether they are the same.
+const SAME_TYPES: [(Form, Form, bool); 11] = [
+    (Form::Int64, Form::Int64, true),
+    (Form::Int64, Form::Int32, false),
+    (Form::Text, Form::Bytes, false),
+    (Form::Array(&Form::Bool), Form::Array(&Form::Bool), true),
+    (Form::Array(&Form::Bool), Form::Array(&Form::Date), false),
+    (Form::Array(&Form::Bool), Form::Bool, false),
+    (
+        Form::Pair(Some("a"), &Form::Bool),
+        Form::Pair(Some("A"), &Form::Bool),
+        true,
+    ),
+    (
+        Form::Pair(Some("a"), &Form::Bool),
+        Form::Pair(Some("b"), &Form::Bool),
+        false,
+    ),
+    (
+        Form::Pair(Some("a"), &Form::Bool),
+        Form::Pair(None, &Form::Bool),
+        false,
+    ),
+    (
+        Form::Pair(None, &Form::Bool),
+        Form::Pair(None, &Form::Bool),
+        true,
+    ),
+    (
+        Form::Pair(None, &Form::Bool),
+        Form::Pair(None, &Form::Date),
+        false,
+    ),
+];
+
 #[test]
 fn types_that_are_the_same(rt: HostRuntime) -> Result<(), Fail> {
     let alloc = rt.alloc();
-    let cases = vec![in alloc;
-        (SqlType::Int64, SqlType::Int64, true),
-        (SqlType::Int64, SqlType::Int32, false),
-        (SqlType::Text, SqlType::Bytes, false),
-        (
-            array_type(alloc, SqlType::Bool)?,
-            array_type(alloc, SqlType::Bool)?,
-            true
-        ),
-        (
-            array_type(alloc, SqlType::Bool)?,
-            array_type(alloc, SqlType::Date)?,
-            false
-        ),
-        (array_type(alloc, SqlType::Bool)?, SqlType::Bool, false),
-        (
-            pair(alloc, Some("a"), SqlType::Bool)?,
-            pair(alloc, Some("A"), SqlType::Bool)?,
-            true
-        ),
-        (
-            pair(alloc, Some("a"), SqlType::Bool)?,
-            pair(alloc, Some("b"), SqlType::Bool)?,
-            false
-        ),
-        (
-            pair(alloc, Some("a"), SqlType::Bool)?,
-            pair(alloc, None, SqlType::Bool)?,
-            false
-        ),
-        (
-            pair(alloc, None, SqlType::Bool)?,
-            pair(alloc, None, SqlType::Bool)?,
-            true
-        ),
-        (
-            pair(alloc, None, SqlType::Bool)?,
-            pair(alloc, None, SqlType::Date)?,
-            false
-        ),
-    ]?;
-    for (left, right, want) in &cases {
-        assert_eq!(rt; same_type(left, right), *want);
+    for (left, right, want) in SAME_TYPES {
+        assert_eq!(rt;
+            same_type(&type_of(alloc, &left)?, &type_of(alloc, &right)?),
+            want
+        );
     }
     Ok(())
 }
 
-fn text(alloc: Global, text: &str) -> Result<Value, AllocError> {
-    Ok(Value::Text(Text::copy_of(alloc, text)?))
+#[cycle(plain)]
+fn value(alloc: Global, plain: &Plain) -> Result<Value, AllocError> {
+    Ok(match plain {
+        Plain::Null => Value::Null,
+        Plain::Bool(truth) => Value::Bool(*truth),
+        Plain::Int(number) => Value::Int(*number),
+        Plain::Uint(number) => Value::Uint(*number),
+        Plain::Date(day) => Value::Date(*day),
+        Plain::Text(text) => Value::Text(Text::copy_of(alloc, text)?),
+        Plain::Bytes(bytes) => Value::Bytes(Items::from_slice(alloc, bytes)?),
+        Plain::Array(elements) => Value::Array(values(alloc, elements)?),
+        Plain::Struct(fields) => Value::Struct(values(alloc, fields)?),
+    })
 }
 
-fn bytes(alloc: Global, bytes: &[u8]) -> Result<Value, AllocError> {
-    Ok(Value::Bytes(Items::from_slice(alloc, bytes)?))
+#[cycle(plain)]
+fn values(alloc: Global, list: &[Plain]) -> Result<Values, AllocError> {
+    let mut values = Items::new(alloc);
+    for plain in list {
+        values.push(value(alloc, plain)?)?;
+    }
+    Ok(values)
 }
 
-fn values(list: Vec<Value>) -> Values {
-    Items::from_vec(list)
-}
-
-fn array(elements: Vec<Value>) -> Value {
-    Value::Array(values(elements))
-}
-
-fn fields(fields: Vec<Value>) -> Value {
-    Value::Struct(values(fields))
-}
-
-fn array_type(alloc: Global, element: SqlType) -> Result<SqlType, AllocError> {
-    Ok(SqlType::Array(Boxed::new(alloc, element)?))
+fn type_of(alloc: Global, form: &Form) -> Result<SqlType, AllocError> {
+    Ok(match form {
+        Form::Bool => SqlType::Bool,
+        Form::Int32 => SqlType::Int32,
+        Form::Int64 => SqlType::Int64,
+        Form::Uint32 => SqlType::Uint32,
+        Form::Uint64 => SqlType::Uint64,
+        Form::Text => SqlType::Text,
+        Form::Bytes => SqlType::Bytes,
+        Form::Date => SqlType::Date,
+        Form::Array(element) => SqlType::Array(Boxed::new(alloc, type_of(alloc, element)?)?),
+        Form::Pair(name, second) => SqlType::Struct(columns(
+            alloc,
+            *name,
+            type_of(alloc, second)?,
+        )?),
+    })
 }
 
 /// An unnamed INT64, and then a column of this name and type.
-fn columns(
-    alloc: Global,
-    name: Option<&str>,
-    ty: SqlType,
-) -> Result<Items<Named<SqlType>>, AllocError> {
+fn columns(alloc: Global, name: Option<&str>, ty: SqlType) -> Result<Columns, AllocError> {
     let name = match name {
         None => None,
         Some(name) => Some(Text::copy_of(alloc, name)?),
@@ -416,9 +442,4 @@ fn columns(
     })?;
     columns.push(Named { name, ty })?;
     Ok(columns)
-}
-
-/// The STRUCT of these.
-fn pair(alloc: Global, name: Option<&str>, ty: SqlType) -> Result<SqlType, AllocError> {
-    Ok(SqlType::Struct(columns(alloc, name, ty)?))
 }
