@@ -47,8 +47,8 @@ abbrev pub text_at : List Value → ℕ → Option (List ℕ)
 text_at values place = text_form (argument values place)
 
 -- each DATE among the values is a day that DATE has
-abbrev pub HasDates : List Value → Type 0
-HasDates values = (place : ℕ) → IfSome (date_at values place) (λ day. is_day day ≡ true)
+pub record HasDates (values : List Value) : Type 0 where
+  pub each : (place : ℕ) → IfSome (date_at values place) (λ day. is_day day ≡ true)
 
 -- a part is the STRING of its name in upper case
 abbrev pub part_at : List Value → ℕ → Option DatePart

@@ -32,6 +32,18 @@ pub fn date_of(days: i32) -> CalendarDate
     }
 }
 
+/// The place of a day in its year, from 1.
+pub fn day_of_year(days: i32) -> u16
+    requires { is_day days ≡ true }
+    ensures value { let date = calendar.date_of days in result ≡ calendar.day_of_year date.year date.month date.day }
+    ensures range { IsInRange 1 366 result }
+{
+    match Date::from_unix_epoch_day(i64::from(days)) {
+        Ok(date) => date.day_of_year(),
+        Err(_) => unreachable!(),
+    }
+}
+
 /// The day with this date, in days after 1970-01-01, and None where the calendar has no such date.
 pub fn day_of(year: u64, month: u64, day: u64) -> Option<i32>
     ensures { result ≡ calendar.day_of year month day }

@@ -1,7 +1,7 @@
 //! Rows, copies and dates.
 use crate::{
     CalendarDate, Items, Named, Rows, SqlType, Text, Value, copy_columns, copy_values, date_of,
-    date_text, day_of, month_length, read_date, write_date,
+    date_text, day_of, day_of_year, month_length, read_date, write_date,
 };
 use std::test::Fail;
 
@@ -109,6 +109,8 @@ fn days_and_dates(rt: HostRuntime) -> Result<(), Fail> {
     assert_eq!(rt; day_of(2100, 2, 29), None);
     assert_eq!(rt; day_of(10_000, 1, 1), None);
     assert_eq!(rt; day_of(u64::MAX, u64::MAX, u64::MAX), None);
+    assert_eq!(rt; day_of_year(19_782), 60);
+    assert_eq!(rt; day_of_year(2_932_896), 365);
     assert_eq!(rt; month_length(2023, 2), 28);
     assert_eq!(rt; month_length(2000, 2), 29);
     assert_eq!(rt; month_length(2024, 11), 30);
