@@ -1,5 +1,5 @@
-use Rattle.std.proofs.Common.{◌≡◌, ◌∙◌, ◌+◌, ◌-◌, ◌≤◌, sym, ap, pos, w16, w32, to_z, of_z, rules, unsigned_abs, arith}
-use Rattle.jiff_core.specs.Calendar.{days_of_months, days_in_year}
+use Rattle.std.proofs.Common.{◌≡◌, ◌∙◌, ◌+◌, ◌-◌, ap, rules, unsigned_abs, arith}
+use Rattle.jiff_core.specs.Calendar.{days_of_months}
 use Rattle.jiff_core.specs.Date.{epoch_day}
 use Rattle.jiff_core.proofs.CalendarLemmas.{days_in_year_bounds}
 use Rattle.sql_types.proofs.CalendarLaws.{days_before_month-civil}
