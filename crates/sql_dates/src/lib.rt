@@ -8,6 +8,8 @@ pub mod calls;
 mod field;
 mod moving;
 pub mod part;
+#[cfg(test)]
+mod tests;
 
 pub use calls::{
     date_add_date_int64_string, date_diff_date_date_string, date_from_unix_date_int64,
