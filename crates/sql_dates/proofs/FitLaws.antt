@@ -58,17 +58,17 @@ null-layer t.Date = refl
 null-layer (t.Array e) = refl
 null-layer (t.Struct fs) = refl
 
-pub null-fits : (ty : SqlType) → fits ty v.Null ≡ true
-null-fits ty = fits-by ty v.Null (out-SqlType ty) o.Null refl out-Null ∙ null-layer (opened ty)
+pub null_fits : (ty : SqlType) → fits ty v.Null ≡ true
+null_fits ty = fits-by ty v.Null (out-SqlType ty) o.Null refl out-Null ∙ null-layer (opened ty)
 
-pub date-fits : (day : ℤ) → is_day day ≡ true → fits ty.Date (v.Date day) ≡ true
-date-fits day is = fits-by ty.Date (v.Date day) t.Date (o.Date day) open-Date (out-Date day) ∙ is
+pub date_fits : (day : ℤ) → is_day day ≡ true → fits ty.Date (v.Date day) ≡ true
+date_fits day is = fits-by ty.Date (v.Date day) t.Date (o.Date day) open-Date (out-Date day) ∙ is
 
-pub int-fits : (n : ℤ) → FitsSigned w64 n → fits ty.Int64 (v.Int n) ≡ true
-int-fits n range = fits-by ty.Int64 (v.Int n) t.Int64 (o.Int n) open-Int64 (out-Int n) ∙ within-int64 n range
+pub int_fits : (n : ℤ) → FitsSigned w64 n → fits ty.Int64 (v.Int n) ≡ true
+int_fits n range = fits-by ty.Int64 (v.Int n) t.Int64 (o.Int n) open-Int64 (out-Int n) ∙ within-int64 n range
   where
     within-int64 : (n : ℤ) → FitsSigned w64 n → (int_le (negsuc 9223372036854775807) n && int_le n (pos 9223372036854775807)) ≡ true
     within-int64 n range = grind (arith, signed_arith, common_steps)
 
-pub text-fits : (bytes : List ℕ) → IsUtf8 bytes → fits ty.Text (v.Text bytes) ≡ true
-text-fits bytes utf8 = fits-by ty.Text (v.Text bytes) t.Text (o.Text bytes) open-Text (out-Text bytes) ∙ is_utf8-from_IsUtf8 bytes utf8
+pub text_fits : (bytes : List ℕ) → IsUtf8 bytes → fits ty.Text (v.Text bytes) ≡ true
+text_fits bytes utf8 = fits-by ty.Text (v.Text bytes) t.Text (o.Text bytes) open-Text (out-Text bytes) ∙ is_utf8-from_IsUtf8 bytes utf8

@@ -11,7 +11,7 @@ use Rattle.sql_dates.specs.declared.part.DateField.{DateField}
 use Rattle.sql_dates.specs.declared.part.DateField.TheVariants as field
 
 -- the part that a name in upper case names, for the functions on dates but EXTRACT
-abbrev pub part_named : List ℕ → Option DatePart
+unfoldable pub part_named : List ℕ → Option DatePart
 part_named name =
     if bytes_eq name (codes "DAY") then Some part.Day
     else if bytes_eq name (codes "WEEK") then Some part.Week
@@ -21,7 +21,7 @@ part_named name =
     else None
 
 -- and for EXTRACT
-abbrev pub field_named : List ℕ → Option DateField
+unfoldable pub field_named : List ℕ → Option DateField
 field_named name =
     if bytes_eq name (codes "DAY") then Some field.Day
     else if bytes_eq name (codes "MONTH") then Some field.Month

@@ -31,6 +31,7 @@ pub enum DateField {
 }
 
 /// The part with a name in upper case, None where no part has it.
+#[tactic(auto, unfolding(crate::specs::Parts::part_named))]
 pub fn part_named(name: &[u8]) -> Option<DatePart>
     ensures { result ≡ parts.part_named name.now }
 {
@@ -50,6 +51,7 @@ pub fn part_named(name: &[u8]) -> Option<DatePart>
 }
 
 /// What EXTRACT takes by a name in upper case, None where it takes nothing by it.
+#[tactic(auto, unfolding(crate::specs::Parts::field_named))]
 pub fn field_named(name: &[u8]) -> Option<DateField>
     ensures { result ≡ parts.field_named name.now }
 {

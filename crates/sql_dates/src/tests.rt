@@ -1,9 +1,10 @@
 //! The corners of each function. A date is written as its text, and NULL as nothing.
-ghost use Rattle.std.specs.Prelude.{◌≡◌, true, Some, IsSome, IfOk};
+ghost use Rattle.std.specs.Prelude.{◌≡◌, true, Some, IsSome, IfOk, option_and_then};
 ghost use Rattle.sql_types.specs.declared.sql_type.SqlType.TheVariants as ty;
 ghost use Rattle.sql_types.specs.declared.value.Value.{out-Value};
 ghost use Rattle.sql_types.specs.Fits.{fits, is_day};
 ghost use Rattle.sql_dates.specs.Arguments.{text_form};
+ghost use Rattle.sql_dates.specs.Parts.{part_named, field_named};
 
 use crate::{
     date_add_date_int64_string, date_diff_date_date_string, date_from_unix_date_int64,
@@ -49,7 +50,7 @@ fn moves_dates(rt: HostRuntime) -> Result<(), Fail> {
     let alloc = rt.alloc();
     for (day, count, part, later, earlier) in MOVED {
         assert!(rt; part_named(part.as_bytes()).is_some());
-        let added = [date_value(day), Value::Int(count), part_value(alloc, part)?];
+        let added = [date_value(day), int_value(count), part_value(alloc, part)?];
         assert_eq!(rt; shown(alloc, date_add_date_int64_string(&added))?.as_str(), later);
         assert_eq!(rt; shown(alloc, date_sub_date_int64_string(&added))?.as_str(), earlier);
     }
@@ -76,10 +77,10 @@ const MADE: [(i64, i64, i64, &str); 12] = [
 fn makes_dates(rt: HostRuntime) -> Result<(), Fail> {
     let alloc = rt.alloc();
     for (year, month, day, want) in MADE {
-        let values = [Value::Int(year), Value::Int(month), Value::Int(day)];
+        let values = [int_value(year), int_value(month), int_value(day)];
         assert_eq!(rt; shown(alloc, date_int64_int64_int64(&values))?.as_str(), want);
     }
-    let null = [Value::Int(2023), Value::Null, Value::Int(31)];
+    let null = [int_value(2023), null_value(), int_value(31)];
     assert_eq!(rt; shown(alloc, date_int64_int64_int64(&null))?.as_str(), "NULL");
     Ok(())
 }
@@ -178,7 +179,7 @@ fn takes_fields(rt: HostRuntime) -> Result<(), Fail> {
     let alloc = rt.alloc();
     for (field, day, want) in FIELDS {
         assert!(rt; field_named(field.as_bytes()).is_some());
-        let values = [part_value(alloc, field)?, date_value(day)];
+        let values = [field_value(alloc, field)?, date_value(day)];
         assert_eq!(rt; shown(alloc, extract_string_date(&values))?.as_str(), want);
     }
     Ok(())
@@ -198,7 +199,7 @@ const UNIX: [(i64, &str); 6] = [
 fn counts_from_1970(rt: HostRuntime) -> Result<(), Fail> {
     let alloc = rt.alloc();
     for (days, want) in UNIX {
-        let values = [Value::Int(days)];
+        let values = [int_value(days)];
         assert_eq!(rt; shown(alloc, date_from_unix_date_int64(&values))?.as_str(), want);
     }
     let table = [
@@ -210,7 +211,7 @@ fn counts_from_1970(rt: HostRuntime) -> Result<(), Fail> {
     for (day, want) in table {
         assert_eq!(rt; shown(alloc, unix_date_date(&[date_value(day)]))?.as_str(), want);
     }
-    assert_eq!(rt; shown(alloc, date_from_unix_date_int64(&[Value::Null]))?.as_str(), "NULL");
+    assert_eq!(rt; shown(alloc, date_from_unix_date_int64(&[null_value()]))?.as_str(), "NULL");
     Ok(())
 }
 
@@ -224,6 +225,7 @@ fn names_parts(rt: HostRuntime) -> Result<(), Fail> {
 }
 
 /// The day that a text writes, as a DATE.
+#[tactic(auto, using(crate::proofs::FitLaws::date_fits, crate::proofs::FitLaws::null_fits))]
 fn date_value(text: &str) -> Value
     ensures { fits ty.Date result ≡ true }
 {
@@ -233,12 +235,46 @@ fn date_value(text: &str) -> Value
     }
 }
 
-/// A name as a STRING.
-fn part_value(alloc: Global, name: &str) -> Result<Value, AllocError>
-    ensures fits { IfOk result (λ value. fits ty.Text value ≡ true) }
-    ensures name { IfOk result (λ value. text_form (out-Value value) ≡ Some name.now) }
+/// A number as an INT64.
+#[tactic(auto, using(crate::proofs::FitLaws::int_fits))]
+fn int_value(number: i64) -> Value
+    ensures { fits ty.Int64 result ≡ true }
 {
-    Ok(Value::Text(Text::copy_of(alloc, name)?))
+    Value::Int(number)
+}
+
+/// NULL in each type.
+#[tactic(auto, using(crate::proofs::FitLaws::null_fits))]
+fn null_value() -> Value
+    ensures { fits ty.Int64 result ≡ true }
+{
+    Value::Null
+}
+
+/// The name of a part as a STRING.
+fn part_value(alloc: Global, name: &str) -> Result<Value, AllocError>
+    requires { IsSome (part_named name.now) }
+    ensures fits { IfOk result (λ value. fits ty.Text value ≡ true) }
+    ensures part { IfOk result (λ value. IsSome (option_and_then part_named (text_form (out-Value value)))) }
+{
+    text_value(alloc, name)
+}
+
+/// The name of what EXTRACT takes as a STRING.
+fn field_value(alloc: Global, name: &str) -> Result<Value, AllocError>
+    requires { IsSome (field_named name.now) }
+    ensures fits { IfOk result (λ value. fits ty.Text value ≡ true) }
+    ensures field { IfOk result (λ value. IsSome (option_and_then field_named (text_form (out-Value value)))) }
+{
+    text_value(alloc, name)
+}
+
+#[tactic(auto, using(crate::proofs::FitLaws::text_fits))]
+fn text_value(alloc: Global, text: &str) -> Result<Value, AllocError>
+    ensures fits { IfOk result (λ value. fits ty.Text value ≡ true) }
+    ensures text { IfOk result (λ value. text_form (out-Value value) ≡ Some text.now) }
+{
+    Ok(Value::Text(Text::copy_of(alloc, text)?))
 }
 
 fn shown(alloc: Global, answer: Result<Value, CallFault>) -> Result<String, AllocError> {
