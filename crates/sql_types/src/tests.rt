@@ -88,6 +88,7 @@ fn writes_dates(rt: HostRuntime) -> Result<(), Fail> {
         (2_932_896, "9999-12-31"),
     ];
     for (day, text) in table {
+        assert!(rt; day >= -719_162 && day <= 2_932_896);
         assert_eq!(rt; date_text(alloc, day)?.as_str(), text);
     }
     let mut out = Vec::new(alloc);
