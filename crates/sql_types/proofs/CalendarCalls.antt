@@ -1,4 +1,5 @@
 -- The dates that the calendar which is called has from the year 1 on are those of this calendar.
+use Rattle.std.specs.Prelude.{IfSome}
 use Rattle.std.proofs.Common.{◌≡◌, ℕ, ◌≤◌, ℤ, pos, negsuc, ◌<ℤ◌, ◌≤ℤ◌, unsigned_abs, Bool, true, false, if◌then◌else◌, inl, Some, None, refl, sym, ap, subst, ◌∙◌, arith, rules}
 use Rattle.std.proofs.lemmas.Int.{by_lt_z}
 use Rattle.std.proofs.lemmas.Grind.{common_steps}
@@ -10,7 +11,7 @@ use Rattle.jiff_core.proofs.DateLemmas.{epoch_day-lt}
 use Rattle.jiff_core.proofs.SignedLemmas.{signed_arith}
 use Rattle.sql_types.specs.Calendar.{is_date, day_of, day_number, days_before_year, days_before_month, date_of, month_length}
 use Rattle.sql_types.specs.Fits.{is_day}
-use Rattle.sql_types.proofs.CalendarLaws.{OnCalendar, on_calendar, is_date-on, date_of-day_number, day_number-civil, month_length-civil}
+use Rattle.sql_types.proofs.CalendarLaws.{OnCalendar, is_day-number, on_calendar, is_date-on, date_of-day_number, day_number-civil, month_length-civil}
 
 first_date : Date
 first_date = record { year = pos 1; month = 1; day = 1; year_in = search rules; month_in = search rules; day_in = search rules }
@@ -107,3 +108,11 @@ day-most year month day on =
     let P : ℕ → Type 0 = λ n. n ≤ 31 in
     let most : month_length year month ≤ 31 = subst P same bounds.0 in
     omega (arith, most, on.last_day)
+
+-- a day that is found is one that DATE has
+pub day_of-fits : (year month day : ℕ) → IfSome (day_of year month day) (λ n. is_day n ≡ true)
+day_of-fits year month day = fits-by (is_date year month day) refl
+  where
+    fits-by : (b : Bool) → is_date year month day ≡ b → IfSome (if b then Some (day_number year month day) else None) (λ n. is_day n ≡ true)
+    fits-by true is = is_day-number year month day (on_calendar year month day is)
+    fits-by false is = tt

@@ -1,5 +1,5 @@
 -- Worked examples of the calendar, by computation.
-use Rattle.std.proofs.Common.{◌≡◌, refl, pos, neg_ℤ, true, false, Some, None, codes}
+use Rattle.std.proofs.Common.{◌≡◌, refl, pos, neg_ℤ, false, Some, None, codes}
 use Rattle.sql_types.specs.Calendar.{is_date, month_length, year_length, year_lengths, calendar_years, days_before_year, days_before_month, day_number, located, date_of, date_text, read_date}
 
 day_0 : day_number 1970 1 1 ≡ pos 0

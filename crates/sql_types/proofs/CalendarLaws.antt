@@ -206,6 +206,10 @@ days_of_months-civil year (suc (suc (suc (suc (suc (suc (suc (suc (suc (suc zero
 days_of_months-civil year (suc (suc (suc (suc (suc (suc (suc (suc (suc (suc (suc zero))))))))))) among = grind arith
 days_of_months-civil year (suc (suc (suc (suc (suc (suc (suc (suc (suc (suc (suc (suc n)))))))))))) among = absurd (omega arith)
 
+pub days_before_month-civil : (year month : ℕ) → 1 ≤ month → month ≤ 12 → days_of_months (pos year) (month - 1) ≡ days_before_month year month
+unfolding days_before_month
+days_before_month-civil year month first last = days_of_months-civil year (month - 1) (omega arith)
+
 days_in_month-civil : (year n : ℕ) → n < 12 → days_in_month (pos year) (suc n) ≡ get_or (month_lengths year) n 0
 days_in_month-civil year zero among = refl
 days_in_month-civil year (suc zero) among = refl

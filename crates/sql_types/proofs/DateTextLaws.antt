@@ -1,4 +1,5 @@
 -- The text of a day is ASCII, and it is read as this day.
+use Rattle.std.specs.Prelude.{IfSome, Option, None, option_and_then}
 use Rattle.std.proofs.Common.{◌≡◌, ℕ, zero, suc, ◌+◌, ◌-◌, ◌*◌, ◌/◌, ◌%◌, ◌<◌, ◌≤◌, ℤ, true, false, ◌==◌, List, [], ◌∷◌, ◌++◌, length, nat_lt, IsUtf8, Some, refl, ap, ◌∙◌, arith}
 use Rattle.std.specs.Char.{is_ascii_digit}
 use Rattle.std.proofs.lemmas.Bool.Decides.{nat_tests}
@@ -8,7 +9,7 @@ use Rattle.sql_types.specs.declared.calendar.CalendarDate.{CalendarDate}
 use Rattle.sql_types.specs.Calendar.{digit, two_digits, four_digits, dash, written_date, date_text, date_of, day_number, number_after, number_of, cut_at_dash, read_date}
 use Rattle.sql_types.specs.Fits.{is_day}
 use Rattle.sql_types.proofs.CalendarLaws.{OnCalendar, is_date_of}
-use Rattle.sql_types.proofs.CalendarCalls.{day_of-some, day-most}
+use Rattle.sql_types.proofs.CalendarCalls.{day_of-some, day_of-fits, day-most}
 
 ascii-two : (n : ℕ) → n < 100 → IsAscii (two_digits n)
 ascii-two n small zero = omega arith
@@ -90,3 +91,16 @@ unfolding date_text
 read-date_text day is =
     let found = is_date_of day is in
     read-written (date_of day) found.calendar ∙ ap Some found.number
+
+if_some-then : {A : Type 0} (P : ℤ → Type 0) (o : Option A) (f : A → Option ℤ) → ((x : A) → IfSome (f x) P) → IfSome (option_and_then f o) P
+if_some-then P None f each = tt
+if_some-then P (Some x) f each = each x
+
+-- a day that is read is one that DATE has
+pub read_date-fits : (text : List ℕ) → IfSome (read_date text) (λ day. is_day day ≡ true)
+unfolding read_date
+read_date-fits text =
+    let P : ℤ → Type 0 = λ day. is_day day ≡ true in
+    if_some-then P (cut_at_dash text) _ (λ year. if_some-then P (cut_at_dash year.1) _ (λ month.
+    if_some-then P (number_of 4 4 year.0) _ (λ y. if_some-then P (number_of 1 2 month.0) _ (λ m. if_some-then P (number_of 1 2 month.1) _ (λ d.
+    day_of-fits y m d)))))

@@ -48,7 +48,8 @@ fn write_two_digits(out: &mut Vec<u8>, number: u16) -> Result<(), AllocError>
 /// digits, of a date from 0001-01-01 to 9999-12-31. None for every other text. It takes no memory.
 #[tactic(auto, unfolding(crate::specs::Calendar::read_date))]
 pub fn read_date(text: &[u8]) -> Option<i32>
-    ensures { result ≡ calendar.read_date text.now }
+    ensures value { result ≡ calendar.read_date text.now }
+    ensures fits { IfSome result (λ day. is_day day ≡ true) }
 {
     let year_end = dash_place(text)?;
     let rest = &text[year_end + 1..];
@@ -69,7 +70,8 @@ fn dash_place(text: &[u8]) -> Option<usize>
 }
 
 fn read_parts(year: &[u8], month: &[u8], day: &[u8]) -> Option<i32>
-    ensures { result ≡ calendar.read_parts year.now month.now day.now }
+    ensures value { result ≡ calendar.read_parts year.now month.now day.now }
+    ensures fits { IfSome result (λ day. is_day day ≡ true) }
 {
     let year = number_of(4, 4, year)?;
     let month = number_of(1, 2, month)?;

@@ -19,7 +19,7 @@ pub mod sql_type;
 mod tests;
 pub mod value;
 
-pub use calendar::{CalendarDate, date_of, day_of, month_length};
+pub use calendar::{CalendarDate, date_of, day_of, day_of_year, month_length};
 pub use copies::{copy_columns, copy_name, copy_type, copy_value, copy_values};
 pub use date_texts::{date_text, read_date, write_date};
 pub use equality::equal;

@@ -2,6 +2,8 @@
 use crate::{
     Boxed, CalendarDate, Items, Named, Rows, SqlType, Text, Value, copy_columns, copy_values,
     date_of, date_text, day_of, month_length, read_date, type_text, write_date,
+    CalendarDate, Items, Named, Rows, SqlType, Text, Value, copy_columns, copy_values, date_of,
+    date_text, day_of, day_of_year, month_length, read_date, write_date,
 };
 use std::alloc::Global;
 //! Rows, copies, and the calls that compare and test values and types.
@@ -415,6 +417,7 @@ fn writes_dates(rt: HostRuntime) -> Result<(), Fail> {
         (2_932_896, "9999-12-31"),
     ];
     for (day, text) in table {
+        assert!(rt; day >= -719_162 && day <= 2_932_896);
         assert_eq!(rt; date_text(alloc, day)?.as_str(), text);
     }
     let mut out = Vec::new(alloc);
@@ -436,6 +439,8 @@ fn days_and_dates(rt: HostRuntime) -> Result<(), Fail> {
     assert_eq!(rt; day_of(2100, 2, 29), None);
     assert_eq!(rt; day_of(10_000, 1, 1), None);
     assert_eq!(rt; day_of(u64::MAX, u64::MAX, u64::MAX), None);
+    assert_eq!(rt; day_of_year(19_782), 60);
+    assert_eq!(rt; day_of_year(2_932_896), 365);
     assert_eq!(rt; month_length(2023, 2), 28);
     assert_eq!(rt; month_length(2000, 2), 29);
     assert_eq!(rt; month_length(2024, 11), 30);
