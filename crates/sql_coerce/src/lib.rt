@@ -2,5 +2,7 @@
 #![tactic(auto)]
 
 pub mod arg;
+pub mod family;
 
 pub use arg::{Arg, Kind};
+pub use family::Family;
