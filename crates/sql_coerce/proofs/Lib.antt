@@ -1,3 +1,4 @@
 pub mod Outs
 pub mod Opens
+pub mod Levels
 mod Examples

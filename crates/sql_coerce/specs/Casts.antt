@@ -192,3 +192,18 @@ converted_layer _ _ _ = Err Cast
 -- the value that the cast from the one type to the other gives, or the fault CAST
 unfoldable pub converted : SqlType → SqlType → Value → Outcome Value
 converted = fold-SqlType (SqlType → Value → Outcome Value) (λ from to x. converted_layer from (out-SqlType to) (out-Value x))
+
+-- ---- the same of fields as they stand
+
+-- as many fields, each of which can be cast
+abbrev pub fields_castable : List (Named SqlType) → List (Named SqlType) → Bool
+fields_castable [] [] = true
+fields_castable [] (to ∷ tos) = false
+fields_castable (from ∷ froms) [] = false
+fields_castable (from ∷ froms) (to ∷ tos) = castable from.ty to.ty && fields_castable froms tos
+
+-- each field cast
+abbrev pub fields_converted : List (Named SqlType) → List (Named SqlType) → List Value → Outcome (List Value)
+fields_converted (from ∷ froms) (to ∷ tos) (x ∷ xs) = before_values (converted from.ty to.ty x) (fields_converted froms tos xs)
+fields_converted [] [] [] = Ok []
+fields_converted _ _ _ = Err Cast

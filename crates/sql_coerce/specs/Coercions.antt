@@ -66,3 +66,10 @@ coerces from (kind.Literal value) to = other_coerces from to || literal_layer (o
 coerces from kind.Parameter to = other_coerces from to
 coerces from kind.Untyped to = untyped_layer (out-SqlType from) (out-SqlType to)
 coerces from kind.Other to = other_coerces from to
+
+-- as many fields, each of which coerces as kind other
+abbrev pub fields_coerce : List (Named SqlType) → List (Named SqlType) → Bool
+fields_coerce [] [] = true
+fields_coerce [] (to ∷ tos) = false
+fields_coerce (from ∷ froms) [] = false
+fields_coerce (from ∷ froms) (to ∷ tos) = other_coerces from.ty to.ty && fields_coerce froms tos

@@ -1,5 +1,5 @@
 -- The supertype of a list of expressions.
-use Rattle.std.specs.Prelude.{ℕ, suc, length, map, nat_eq, Bool, true, false, ◌&&◌, if◌then◌else◌, List, [], ◌∷◌, slice_index_or, Option, Some, None, option_map, option_and_then}
+use Rattle.std.specs.Prelude.{ℕ, suc, length, map, nat_eq, Bool, true, false, ◌&&◌, if◌then◌else◌, List, [], ◌∷◌, slice_get, Option, Some, None, option_map}
 use Rattle.std.specs.List.{list_all, list_any}
 use Rattle.sql_types.specs.declared.sql_type.Named.{Named}
 use Rattle.sql_types.specs.declared.sql_type.SqlType.{SqlType, out-SqlType, para-SqlType}
@@ -63,23 +63,23 @@ plain_supertype = first_of (ty.Bool ∷ ty.Int32 ∷ ty.Uint32 ∷ ty.Int64 ∷ 
 abbrev pub Meet : Type 0
 Meet = List Member → Option SqlType
 
--- the fields of a STRUCT of so many fields
-abbrev pub struct_layer : ℕ → t.SqlType-F SqlType → Option (List (Named SqlType))
-struct_layer count (t.Struct fields) = if nat_eq (length fields) count then Some fields else None
-struct_layer count _ = None
+-- a STRUCT of so many fields
+abbrev pub is_struct_of : ℕ → t.SqlType-F SqlType → Bool
+is_struct_of count (t.Struct fields) = nat_eq (length fields) count
+is_struct_of count _ = false
 
-abbrev pub before_structs : Option (List (Named SqlType)) → Option (List (List (Named SqlType))) → Option (List (List (Named SqlType)))
-before_structs None rest = None
-before_structs (Some fields) rest = option_map (λ others. fields ∷ others) rest
+abbrev pub type_of : Option (Named SqlType) → SqlType
+type_of (Some field) = field.ty
+type_of None = ty.Bool
 
--- the fields of each member, where all are STRUCTs of so many fields
-abbrev pub structs : ℕ → List Member → Option (List (List (Named SqlType)))
-structs count [] = Some []
-structs count (m ∷ ms) = before_structs (struct_layer count (out-SqlType m.ty)) (structs count ms)
+-- the type of a STRUCT's field at a place
+abbrev pub field_type : ℕ → t.SqlType-F SqlType → SqlType
+field_type place (t.Struct fields) = type_of (slice_get fields place)
+field_type place _ = ty.Bool
 
--- the field at a place, as kind other
-abbrev pub field_at : ℕ → List (Named SqlType) → Member
-field_at place fields = record { ty = slice_index_or (map (λ f. f.ty) fields) place ty.Bool; kind = kind.Other }
+-- a member's field at a place, as kind other
+abbrev pub field_at : ℕ → Member → Member
+field_at place m = record { ty = field_type place (out-SqlType m.ty); kind = kind.Other }
 
 -- a field before those behind it, where they have supertypes
 abbrev pub before_fields : Option (List ℕ) → Option SqlType → Option (List (Named SqlType)) → Option (List (Named SqlType))
@@ -87,13 +87,14 @@ before_fields name None rest = None
 before_fields name (Some ty) rest = option_map (λ fields. record { name = name; ty = ty } ∷ fields) rest
 
 -- the first's names, and per field, from a place on, the supertype as kind other
-abbrev pub meet_fields : ℕ → List (Named (SqlType × Meet)) → List (List (Named SqlType)) → Option (List (Named SqlType))
-meet_fields place [] all = Some []
-meet_fields place (field ∷ fields) all = before_fields field.name (field.ty.1 (map (field_at place) all)) (meet_fields (suc place) fields all)
+abbrev pub meet_fields : ℕ → List (Named (SqlType × Meet)) → List Member → Option (List (Named SqlType))
+meet_fields place [] list = Some []
+meet_fields place (field ∷ fields) list = before_fields field.name (field.ty.1 (map (field_at place) list)) (meet_fields (suc place) fields list)
 
 abbrev pub meet_layer : t.SqlType-F (SqlType × Meet) → Meet
 -- if the first is a STRUCT, all must be STRUCTs of as many fields
-meet_layer (t.Struct fields) list = option_map ty.Struct (option_and_then (meet_fields 0 fields) (structs (length fields) list))
+meet_layer (t.Struct fields) list =
+    if list_all (λ m. is_struct_of (length fields) (out-SqlType m.ty)) list then option_map ty.Struct (meet_fields 0 fields list) else None
 -- if it is an ARRAY, all must have its type
 meet_layer (t.Array element) list = if list_all (λ m. same_type (ty.Array element.0) m.ty) list then Some (ty.Array element.0) else None
 -- otherwise
@@ -120,3 +121,8 @@ supertype_of (m ∷ ms) empty = with_empty_array empty (meet m.ty (m ∷ ms))
 -- the supertype of a list of expressions, where they have one
 abbrev pub supertype : List Arg → Option SqlType
 supertype arguments = supertype_of (members arguments) (list_any (λ a. empty_array a.ty a.kind) arguments)
+
+-- the first's names, and per field, from a place on, the supertype as kind other
+abbrev pub fields_meet : ℕ → List (Named SqlType) → List Member → Option (List (Named SqlType))
+fields_meet place [] list = Some []
+fields_meet place (field ∷ fields) list = before_fields field.name (meet field.ty (map (field_at place) list)) (fields_meet (suc place) fields list)
