@@ -1,4 +1,5 @@
 pub mod Outs
 pub mod Opens
 pub mod Levels
+pub mod Numbers
 mod Examples

@@ -4,8 +4,10 @@
 pub mod arg;
 pub mod coercions;
 pub mod family;
+pub mod numerals;
 pub mod same;
 
 pub use arg::{Arg, Kind};
 pub use coercions::coerces;
 pub use family::Family;
+pub use numerals::{read_int64, read_integer};
