@@ -1,5 +1,7 @@
 pub mod Outs
 pub mod Opens
 pub mod Levels
+pub mod CastLevels
+pub mod CastLaws
 pub mod Numbers
 mod Examples

@@ -85,7 +85,7 @@ unsigned_value greatest (pos n) = if within (pos 0) greatest (pos n) then Some (
 unsigned_value greatest (negsuc n) = None
 
 -- the number as a value of an integer type, if it lies in the type's range
-abbrev pub integer_value : {A : Type 0} → t.SqlType-F A → ℤ → Option Value
+abbrev pub integer_value : t.SqlType-F SqlType → ℤ → Option Value
 integer_value t.Int32 n = signed_value (negsuc 2147483647) (pos 2147483647) n
 integer_value t.Int64 n = signed_value (negsuc 9223372036854775807) (pos 9223372036854775807) n
 integer_value t.Uint32 n = unsigned_value (pos 4294967295) n
@@ -116,7 +116,7 @@ truth_of_text text =
 abbrev pub text_of_bytes : List ℕ → Option (List ℕ)
 text_of_bytes bytes = if is_utf8 bytes then Some bytes else None
 
-abbrev pub cast_bool : {A : Type 0} → Bool → t.SqlType-F A → Outcome Value
+abbrev pub cast_bool : Bool → t.SqlType-F SqlType → Outcome Value
 -- itself
 cast_bool b t.Bool = Ok (value.Bool b)
 -- BOOL to STRING: `true`, `false`
@@ -124,7 +124,7 @@ cast_bool b t.Text = Ok (value.Text (truth_text b))
 -- BOOL to an integer: TRUE is 1, FALSE 0
 cast_bool b to = or_cast_fault (integer_value to (number_of_truth b))
 
-abbrev pub cast_integer : {A : Type 0} → ℤ → t.SqlType-F A → Outcome Value
+abbrev pub cast_integer : ℤ → t.SqlType-F SqlType → Outcome Value
 -- an integer to BOOL: 0 is FALSE and others TRUE
 cast_integer n t.Bool = Ok (value.Bool (truth_of_number n))
 -- an integer to STRING: decimal
@@ -132,7 +132,7 @@ cast_integer n t.Text = Ok (value.Text (signed_decimal n))
 -- an integer to an integer: the same number; it fails out of range
 cast_integer n to = or_cast_fault (integer_value to n)
 
-abbrev pub cast_text : {A : Type 0} → List ℕ → t.SqlType-F A → Outcome Value
+abbrev pub cast_text : List ℕ → t.SqlType-F SqlType → Outcome Value
 -- itself
 cast_text text t.Text = Ok (value.Text text)
 -- STRING to BOOL: `true`, `false` in any ASCII case
@@ -143,14 +143,14 @@ cast_text text t.Bytes = Ok (value.Bytes text)
 -- of range
 cast_text text to = or_cast_fault (option_and_then (integer_value to) (integer text))
 
-abbrev pub cast_bytes : {A : Type 0} → List ℕ → t.SqlType-F A → Outcome Value
+abbrev pub cast_bytes : List ℕ → t.SqlType-F SqlType → Outcome Value
 -- itself
 cast_bytes bytes t.Bytes = Ok (value.Bytes bytes)
 -- BYTES to STRING: it fails where they aren't UTF-8
 cast_bytes bytes t.Text = or_cast_fault (option_map value.Text (text_of_bytes bytes))
 cast_bytes bytes _ = Err Cast
 
-abbrev pub cast_date : {A : Type 0} → ℤ → t.SqlType-F A → Outcome Value
+abbrev pub cast_date : ℤ → t.SqlType-F SqlType → Outcome Value
 -- itself
 cast_date day t.Date = Ok (value.Date day)
 cast_date day _ = Err Cast

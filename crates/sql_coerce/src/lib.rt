@@ -2,12 +2,16 @@
 #![tactic(auto)]
 
 pub mod arg;
+pub mod casts;
 pub mod coercions;
 pub mod family;
 pub mod numerals;
+pub mod pairs;
 pub mod same;
 
 pub use arg::{Arg, Kind};
+pub use casts::read_bool;
 pub use coercions::coerces;
 pub use family::Family;
 pub use numerals::{read_int64, read_integer};
+pub use pairs::castable;
