@@ -3,5 +3,7 @@ pub mod Opens
 pub mod Levels
 pub mod CastLevels
 pub mod CastLaws
+pub mod ByValue
+pub mod Behind
 pub mod Numbers
 mod Examples

@@ -207,3 +207,15 @@ abbrev pub fields_converted : List (Named SqlType) → List (Named SqlType) → 
 fields_converted (from ∷ froms) (to ∷ tos) (x ∷ xs) = before_values (converted from.ty to.ty x) (fields_converted froms tos xs)
 fields_converted [] [] [] = Ok []
 fields_converted _ _ _ = Err Cast
+
+-- what a value that isn't a STRUCT is cast to, by the value
+abbrev pub plain_cast : v.Value-F Value → t.SqlType-F SqlType → Outcome Value
+plain_cast v.Null to = Ok value.Null
+plain_cast (v.Bool b) to = cast_bool b to
+plain_cast (v.Int n) to = cast_integer n to
+plain_cast (v.Uint n) to = cast_integer (pos n) to
+plain_cast (v.Text text) to = cast_text text to
+plain_cast (v.Bytes bytes) to = cast_bytes bytes to
+plain_cast (v.Date day) to = cast_date day to
+plain_cast (v.Array xs) to = Ok (value.Array xs)
+plain_cast (v.Struct xs) to = Err Cast

@@ -1,7 +1,7 @@
 //! What casts give.
 ghost use Rattle.std.specs.Prelude.{◌≡◌, option_and_then};
 ghost use Rattle.sql_types.specs.declared.sql_type.SqlType.{out-SqlType};
-ghost use Rattle.sql_types.specs.Fits.{fits};
+ghost use Rattle.sql_types.specs.declared.value.Value.{out-Value};
 ghost use Rattle.sql_types.specs.Outcome.{Answers, just};
 ghost use Rattle.sql_types.specs.declared.sql_type.SqlType.TheOpen.{Int32 as int32, Int64 as int64, Uint32 as uint32, Uint64 as uint64};
 ghost use Rattle.sql_coerce.specs.Casts as casts;
@@ -9,9 +9,26 @@ ghost use Rattle.sql_coerce.specs.Numerals.{integer};
 
 use crate::numerals::read_integer;
 use itoa::Buffer;
-use sql_types::{Bytes, CallFault, Fields, FaultKind, Items, SqlType, Text, Value, Values, copy_values};
-use std::alloc::{AllocError, Global};
+use sql_types::{Bytes, CallFault, FaultKind, Items, SqlType, Text, Value, copy_values};
+use std::alloc::Global;
 use std::str;
+
+/// What a value that isn't a STRUCT is cast to. It has this type and fits it, or is an ARRAY that is cast to its own type.
+pub(crate) fn cast_plain(alloc: Global, value: &Value, to: &SqlType) -> Result<Value, CallFault>
+    ensures { Answers (just (casts.plain_cast (out-Value value.now) (out-SqlType to.now))) result }
+{
+    match value {
+        Value::Null => Ok(Value::Null),
+        Value::Bool(truth) => cast_bool(alloc, *truth, to),
+        Value::Int(number) => cast_integer(alloc, i128::from(*number), to),
+        Value::Uint(number) => cast_integer(alloc, i128::from(*number), to),
+        Value::Text(text) => cast_text(alloc, text, to),
+        Value::Bytes(bytes) => cast_bytes(alloc, bytes, to),
+        Value::Date(day) => cast_date(*day, to),
+        Value::Array(elements) => Ok(Value::Array(copy_values(alloc, elements)?)),
+        Value::Struct(_) => Err(CallFault::Fault(FaultKind::Cast)),
+    }
+}
 
 /// The number as a value of an integer type, where the type has it. Nothing for another type.
 fn integer_value(to: &SqlType, number: i128) -> Option<Value>
@@ -137,6 +154,16 @@ fn cast_bytes(alloc: Global, bytes: &Bytes, to: &SqlType) -> Result<Value, CallF
             Ok(text) => Ok(Value::Text(Text::copy_of(alloc, text)?)),
             Err(_) => Err(CallFault::Fault(FaultKind::Cast)),
         },
+        _ => Err(CallFault::Fault(FaultKind::Cast)),
+    }
+}
+
+/// DATE to DATE.
+fn cast_date(day: i32, to: &SqlType) -> Result<Value, CallFault>
+    ensures { Answers (just (casts.cast_date day (out-SqlType to.now))) result }
+{
+    match to {
+        SqlType::Date => Ok(Value::Date(day)),
         _ => Err(CallFault::Fault(FaultKind::Cast)),
     }
 }

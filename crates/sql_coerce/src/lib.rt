@@ -4,6 +4,7 @@
 pub mod arg;
 pub mod casts;
 pub mod coercions;
+pub mod conversions;
 pub mod family;
 pub mod numerals;
 pub mod pairs;
@@ -12,6 +13,7 @@ pub mod same;
 pub use arg::{Arg, Kind};
 pub use casts::read_bool;
 pub use coercions::coerces;
+pub use conversions::convert;
 pub use family::Family;
 pub use numerals::{read_int64, read_integer};
 pub use pairs::castable;
