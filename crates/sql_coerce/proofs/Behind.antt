@@ -1,5 +1,5 @@
 -- Values behind those so far.
-use Rattle.std.proofs.Common.{◌≡◌, ℕ, suc, ◌<◌, ◌+◌, Bool, true, false, List, [], ◌∷◌, ◌++◌, refl, sym, ◌∙◌, ap, append-nil}
+use Rattle.std.proofs.Common.{◌≡◌, true, List, [], ◌∷◌, ◌++◌, refl, sym, ◌∙◌, ap, append-nil}
 use Rattle.std.specs.Prelude.{Ok, Err}
 use Rattle.sql_types.specs.Outcome.{Outcome}
 use Rattle.sql_types.specs.Fits.{fits_row}

@@ -1,9 +1,8 @@
 -- What a value that fits its type is cast to, by the value.
-use Rattle.std.proofs.Common.{◌≡◌, ℕ, Bool, true, false, ◌&&◌, List, [], ◌∷◌, map, refl, sym, ◌∙◌, ap, subst}
-use Rattle.std.specs.Prelude.{ℤ, pos, Result, Ok, Err}
+use Rattle.std.proofs.Common.{◌≡◌, Bool, true, false, ◌&&◌, List, [], ◌∷◌, map, refl, sym, ◌∙◌, ap, subst}
+use Rattle.std.specs.Prelude.{Result, Ok, Err}
 use Rattle.sql_types.specs.declared.fault.CallFault.{CallFault}
 use Rattle.sql_types.specs.declared.fault.CallFault.TheVariants.{Fault, OutOfMemory}
-use Rattle.sql_types.specs.declared.fault.FaultKind.{FaultKind}
 use Rattle.sql_types.specs.declared.fault.FaultKind.TheVariants.{Cast}
 use Rattle.sql_types.specs.declared.sql_type.Named.{Named}
 use Rattle.sql_types.specs.Outcome.{Outcome, Answers, just}
@@ -17,7 +16,6 @@ use Rattle.sql_types.specs.declared.value.Value.{Value, out-Value, roll-Value, r
 use Rattle.sql_types.specs.declared.value.Value.TheVariants as value
 use Rattle.sql_types.specs.declared.value.Value.TheOpen as v
 use Rattle.sql_coerce.specs.Casts.{castable, fields_castable, converted, struct_value, fields_converted, plain_cast}
-use Rattle.sql_coerce.proofs.Outs.{type-Struct, value-Struct}
 use Rattle.sql_coerce.proofs.CastLevels.{converted_at, converted_level, castable_at, castable_level, castable_structs}
 
 abbrev Fitting : t.SqlType-F SqlType → v.Value-F Value → Type 0
@@ -79,7 +77,7 @@ plain_converted from to x none cast fit = by-value from to x (no-struct (out-Val
 -- ---- STRUCTs
 
 pub struct_cast : (froms tos : List (Named SqlType)) (xs : List Value) → converted (ty.Struct froms) (ty.Struct tos) (value.Struct xs) ≡ struct_value (fields_converted froms tos xs)
-struct_cast froms tos xs = converted_level (ty.Struct froms) (ty.Struct tos) (value.Struct xs) ∙ rw (type-Struct froms, type-Struct tos, value-Struct xs) refl
+struct_cast froms tos xs = converted_level (ty.Struct froms) (ty.Struct tos) (value.Struct xs) ∙ rw (ty.outs-Struct froms, ty.outs-Struct tos, value.outs-Struct xs) refl
 
 fields-fit : (fs : List (Named SqlType)) (xs : List Value) → fits_fields (map (shapes.former-SqlType-Struct-0-at-2.map SqlType (Value → Bool) fits) fs) xs ≡ fits_row fs xs
 fields-fit [] [] = refl
@@ -88,7 +86,7 @@ fields-fit (f ∷ fs) [] = refl
 fields-fit (f ∷ fs) (x ∷ xs) = ap (λ b. fits f.ty x && b) (fields-fit fs xs)
 
 pub struct_fits : (fs : List (Named SqlType)) (xs : List Value) → fits (ty.Struct fs) (value.Struct xs) ≡ fits_row fs xs
-struct_fits fs xs = fits-opens (ty.Struct fs) (value.Struct xs) ∙ rw (type-Struct fs, value-Struct xs) (fields-fit fs xs)
+struct_fits fs xs = fits-opens (ty.Struct fs) (value.Struct xs) ∙ rw (ty.outs-Struct fs, value.outs-Struct xs) (fields-fit fs xs)
 
 -- a STRUCT's value has another cast only from a STRUCT and to a STRUCT
 other-from : (l m : t.SqlType-F SqlType) (xs : List Value) → ((fs : List (Named SqlType)) → l ≡ t.Struct fs → ⊥) → converted_at l m (v.Struct xs) ≡ Err Cast
@@ -106,7 +104,7 @@ rolled-type : (whole : SqlType) (fs : List (Named SqlType)) → out-SqlType whol
 rolled-type whole fs is = sym (roll-out-SqlType whole) ∙ ap roll-SqlType is ∙ ty.rolls-Struct fs
 
 struct-level : (from to : SqlType) (xs : List Value) → converted from to (value.Struct xs) ≡ converted_at (out-SqlType from) (out-SqlType to) (v.Struct xs)
-struct-level from to xs = converted_level from to (value.Struct xs) ∙ ap (converted_at (out-SqlType from) (out-SqlType to)) (value-Struct xs)
+struct-level from to xs = converted_level from to (value.Struct xs) ∙ ap (converted_at (out-SqlType from) (out-SqlType to)) (value.outs-Struct xs)
 
 pub no_struct_from : (from to : SqlType) (xs : List Value) → ((fs : List (Named SqlType)) → from ≡ ty.Struct fs → ⊥) → converted from to (value.Struct xs) ≡ Err Cast
 no_struct_from from to xs none = struct-level from to xs ∙ other-from (out-SqlType from) (out-SqlType to) xs (λ fs is. none fs (rolled-type from fs is))

@@ -1,6 +1,6 @@
 -- What the readers of texts say, for the casts.
-use Rattle.std.proofs.Common.{◌≡◌, ℕ, ◌^◌, Bool, true, false, List, Option, Some, None, if◌then◌else◌, refl, arith}
-use Rattle.std.specs.Prelude.{ℤ, pos, negsuc, neg_ℤ, option_and_then, nat_lt, Ok, Err}
+use Rattle.std.proofs.Common.{◌≡◌, ℕ, Bool, true, false, List, Option, Some, None, if◌then◌else◌, refl, arith}
+use Rattle.std.specs.Prelude.{ℤ, pos, negsuc, neg_ℤ, option_and_then, Ok, Err}
 use Rattle.std.proofs.lemmas.Grind.{common_steps}
 use Rattle.std.proofs.lemmas.Str.{is_utf8-from_IsUtf8, IsUtf8-from_is_utf8}
 use Rattle.std.specs.Str.{is_utf8, IsUtf8}
@@ -10,10 +10,8 @@ use Rattle.sql_types.specs.declared.sql_type.SqlType.{SqlType, out-SqlType}
 use Rattle.sql_types.specs.declared.sql_type.SqlType.TheVariants as ty
 use Rattle.sql_types.specs.declared.value.Value.TheVariants as value
 use Rattle.sql_types.specs.declared.sql_type.SqlType.TheOpen as t
-use Rattle.sql_types.specs.declared.value.Value.{Value}
 use Rattle.sql_coerce.specs.Numerals.{only_wide}
-use Rattle.sql_coerce.specs.Casts.{integer_value, signed_value, unsigned_value, text_of_bytes, cast_bytes}
-use Rattle.sql_coerce.proofs.Outs.{type-Text}
+use Rattle.sql_coerce.specs.Casts.{integer_value, text_of_bytes, cast_bytes}
 
 abbrev wide : ℤ → Bool
 wide n = within (neg_ℤ (pos 18446744073709551615)) (pos 18446744073709551615) n
@@ -53,7 +51,7 @@ pub utf8_none : (bytes : List ℕ) → ¬ IsUtf8 bytes → text_of_bytes bytes �
 utf8_none bytes none = by-test bytes (is_utf8 bytes) refl none
 
 pub bytes_text : (to : SqlType) (bytes : List ℕ) → to ≡ ty.Text → IsUtf8 bytes → cast_bytes bytes (out-SqlType to) ≡ Ok (value.Text bytes)
-bytes_text to bytes is utf8 = rw (is, type-Text, utf8_text bytes utf8) refl
+bytes_text to bytes is utf8 = rw (is, ty.outs-Text, utf8_text bytes utf8) refl
 
 pub bytes_fault : (to : SqlType) (bytes : List ℕ) → to ≡ ty.Text → ¬ IsUtf8 bytes → cast_bytes bytes (out-SqlType to) ≡ Err Cast
-bytes_fault to bytes is none = rw (is, type-Text, utf8_none bytes none) refl
+bytes_fault to bytes is none = rw (is, ty.outs-Text, utf8_none bytes none) refl

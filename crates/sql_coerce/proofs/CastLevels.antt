@@ -1,6 +1,5 @@
 -- One level of the casts' definitions, the parts as they stand.
-use Rattle.std.proofs.Common.{◌≡◌, Bool, true, false, ◌&&◌, List, [], ◌∷◌, map, refl, ap, ◌∙◌}
-use Rattle.std.specs.Prelude.{Ok, Err}
+use Rattle.std.proofs.Common.{◌≡◌, Bool, ◌&&◌, List, [], ◌∷◌, map, refl, ap, ◌∙◌}
 use Rattle.sql_types.specs.Outcome.{Outcome}
 use Rattle.sql_types.specs.declared.sql_type.Named.{Named}
 use Rattle.sql_types.specs.declared.sql_type.SqlType.{SqlType, map-SqlType, out-SqlType}
@@ -11,7 +10,6 @@ use Rattle.sql_types.specs.declared.value.Value.{Value, out-Value}
 use Rattle.sql_types.specs.declared.value.Value.TheOpen as v
 use Rattle.sql_coerce.specs.SameTypes.{same_type}
 use Rattle.sql_coerce.specs.Casts.{castable, castable_layer, castable_fields, fields_castable, plain_pair, family_layer, converted, converted_layer, converted_fields, fields_converted, before_values, struct_value}
-use Rattle.sql_coerce.proofs.Outs.{type-Array, type-Struct}
 use Rattle.sql_coerce.proofs.Opens.{castable-opens, converted-opens}
 
 -- ---- the pairs
@@ -40,10 +38,10 @@ pub castable_level : (x y : SqlType) → castable x y ≡ castable_at (out-SqlTy
 castable_level x y = castable-opens x y ∙ castable-moved (out-SqlType x) (out-SqlType y)
 
 pub castable_arrays : (x y : SqlType) → castable (ty.Array x) (ty.Array y) ≡ same_type x y
-castable_arrays x y = castable_level (ty.Array x) (ty.Array y) ∙ rw (type-Array x, type-Array y) refl
+castable_arrays x y = castable_level (ty.Array x) (ty.Array y) ∙ rw (ty.outs-Array x, ty.outs-Array y) refl
 
 pub castable_structs : (fs gs : List (Named SqlType)) → castable (ty.Struct fs) (ty.Struct gs) ≡ fields_castable fs gs
-castable_structs fs gs = castable_level (ty.Struct fs) (ty.Struct gs) ∙ rw (type-Struct fs, type-Struct gs) refl
+castable_structs fs gs = castable_level (ty.Struct fs) (ty.Struct gs) ∙ rw (ty.outs-Struct fs, ty.outs-Struct gs) refl
 
 -- ---- the values
 

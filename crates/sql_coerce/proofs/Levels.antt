@@ -1,18 +1,13 @@
 -- One level of each definition, its parts as they stand.
-use Rattle.std.proofs.Common.{◌≡◌, ℕ, suc, Bool, true, false, ◌&&◌, List, [], ◌∷◌, map, Option, None, Some, refl, ap, sym, ◌∙◌}
-use Rattle.std.specs.Prelude.{Ok, Err}
-use Rattle.sql_types.specs.Outcome.{Outcome}
+use Rattle.std.proofs.Common.{◌≡◌, Bool, true, false, ◌&&◌, List, [], ◌∷◌, map, refl, ap, ◌∙◌}
 use Rattle.sql_types.specs.declared.sql_type.Named.{Named}
 use Rattle.sql_types.specs.declared.sql_type.SqlType.{SqlType, map-SqlType, out-SqlType}
 use Rattle.sql_types.specs.declared.sql_type.SqlType.TheOpen as t
 use Rattle.sql_types.specs.declared.sql_type.SqlType.TheShapes as shapes
-use Rattle.sql_types.specs.declared.value.Value.{Value, out-Value}
-use Rattle.sql_types.specs.declared.value.Value.TheOpen as v
 use Rattle.sql_coerce.specs.SameTypes.{same_type, same_type_layer, same_label, same_fields, same_fields_of}
 use Rattle.sql_coerce.specs.Coercions.{Part, other_coerces, other_layer, coerces_fields, fields_coerce}
 use Rattle.sql_types.specs.declared.sql_type.SqlType.TheVariants as ty
-use Rattle.sql_coerce.proofs.Outs.{type-Array, type-Struct}
-use Rattle.sql_coerce.proofs.Opens.{parted, same_type-opens, other_coerces-opens, castable-opens, converted-opens, meet-opens}
+use Rattle.sql_coerce.proofs.Opens.{same_type-opens, other_coerces-opens}
 
 -- ---- the same type
 
@@ -45,10 +40,10 @@ pub same_type_level : (x y : SqlType) → same_type x y ≡ same_at (out-SqlType
 same_type_level x y = same_type-opens x y ∙ same-moved (out-SqlType x) (out-SqlType y)
 
 pub same_arrays : (x y : SqlType) → same_type (ty.Array x) (ty.Array y) ≡ same_type x y
-same_arrays x y = same_type_level (ty.Array x) (ty.Array y) ∙ rw (type-Array x, type-Array y) refl
+same_arrays x y = same_type_level (ty.Array x) (ty.Array y) ∙ rw (ty.outs-Array x, ty.outs-Array y) refl
 
 pub same_structs : (fs gs : List (Named SqlType)) → same_type (ty.Struct fs) (ty.Struct gs) ≡ same_fields_of fs gs
-same_structs fs gs = same_type_level (ty.Struct fs) (ty.Struct gs) ∙ rw (type-Struct fs, type-Struct gs) refl
+same_structs fs gs = same_type_level (ty.Struct fs) (ty.Struct gs) ∙ rw (ty.outs-Struct fs, ty.outs-Struct gs) refl
 
 -- ---- kind other
 
@@ -86,7 +81,7 @@ pub other_coerces_level : (x y : SqlType) → other_coerces x y ≡ other_at (ou
 other_coerces_level x y = other_coerces-opens x y ∙ other-moved (out-SqlType x) (out-SqlType y)
 
 pub other_arrays : (x y : SqlType) → other_coerces (ty.Array x) (ty.Array y) ≡ same_type x y
-other_arrays x y = other_coerces_level (ty.Array x) (ty.Array y) ∙ rw (type-Array x, type-Array y) refl
+other_arrays x y = other_coerces_level (ty.Array x) (ty.Array y) ∙ rw (ty.outs-Array x, ty.outs-Array y) refl
 
 pub other_structs : (fs gs : List (Named SqlType)) → other_coerces (ty.Struct fs) (ty.Struct gs) ≡ fields_coerce fs gs
-other_structs fs gs = other_coerces_level (ty.Struct fs) (ty.Struct gs) ∙ rw (type-Struct fs, type-Struct gs) refl
+other_structs fs gs = other_coerces_level (ty.Struct fs) (ty.Struct gs) ∙ rw (ty.outs-Struct fs, ty.outs-Struct gs) refl

@@ -1,4 +1,3 @@
-pub mod Outs
 pub mod Opens
 pub mod Levels
 pub mod CastLevels

@@ -1,8 +1,7 @@
 use Rattle.std.proofs.Common.{rules, to_z, of_z, w32, w64, ◌≡◌, ◌∙◌, ap, sym, ℤ}
 use Rattle.std.specs.Int.{w128}
-use Rattle.sql_types.specs.Outcome.{Outcome}
 use Rattle.sql_types.specs.declared.sql_type.SqlType.{out-SqlType}
-use Rattle.sql_types.specs.declared.value.Value.{Value, out-Value}
+use Rattle.sql_types.specs.declared.value.Value.{out-Value}
 use Rattle.sql_types.specs.declared.value.Value.TheVariants as value
 use Rattle.sql_coerce.specs.Casts.{plain_cast, cast_date, cast_integer}
 use Rattle.sql_coerce.proofs.ByValue.{answers_along}

@@ -1,6 +1,5 @@
-use Rattle.std.proofs.Common.{◌≡◌, ◌∙◌, sym, ap, subst, true, rules, drop, List, []}
+use Rattle.std.proofs.Common.{◌≡◌, sym, subst, rules, drop, List, []}
 use Rattle.std.proofs.lemmas.List.{drop_all}
-use Rattle.sql_types.specs.Outcome.{Outcome}
 use Rattle.sql_types.specs.declared.value.Value.{Value}
 use Rattle.sql_coerce.specs.Casts.{fields_converted}
 use Rattle.sql_coerce.proofs.ByValue.{struct_castable, struct_row, plain_converted, answers_along, no_struct_from, no_struct_to, struct_ok, struct_err}
