@@ -1,6 +1,7 @@
 pub mod Opens
 pub mod Levels
 pub mod CastLevels
+pub mod MeetLevels
 pub mod CastLaws
 pub mod ByValue
 pub mod Behind

@@ -49,10 +49,14 @@ needs_member _ = false
 abbrev pub counts : SqlType → List Member → Bool
 counts ty list = if needs_member (out-SqlType ty) then list_any (λ m. same_type m.ty ty) list else true
 
--- the first of these types that counts and to which every member coerces
+-- the type counts, and every member coerces to it
+abbrev pub suits : SqlType → List Member → Bool
+suits ty list = counts ty list && list_all (λ m. coerces m.ty m.kind ty) list
+
+-- the first of these types that suits the members
 abbrev pub first_of : List SqlType → List Member → Option SqlType
 first_of [] list = None
-first_of (ty ∷ tys) list = if counts ty list && list_all (λ m. coerces m.ty m.kind ty) list then Some ty else first_of tys list
+first_of (ty ∷ tys) list = if suits ty list then Some ty else first_of tys list
 
 abbrev pub plain_supertype : List Member → Option SqlType
 plain_supertype = first_of (ty.Bool ∷ ty.Int32 ∷ ty.Uint32 ∷ ty.Int64 ∷ ty.Uint64 ∷ ty.Date ∷ ty.Text ∷ ty.Bytes ∷ [])
@@ -91,12 +95,16 @@ abbrev pub meet_fields : ℕ → List (Named (SqlType × Meet)) → List Member 
 meet_fields place [] list = Some []
 meet_fields place (field ∷ fields) list = before_fields field.name (field.ty.1 (map (field_at place) list)) (meet_fields (suc place) fields list)
 
+-- the type, where all members have it
+abbrev pub shared_type : SqlType → List Member → Option SqlType
+shared_type ty list = if list_all (λ m. same_type ty m.ty) list then Some ty else None
+
 abbrev pub meet_layer : t.SqlType-F (SqlType × Meet) → Meet
 -- if the first is a STRUCT, all must be STRUCTs of as many fields
 meet_layer (t.Struct fields) list =
     if list_all (λ m. is_struct_of (length fields) (out-SqlType m.ty)) list then option_map ty.Struct (meet_fields 0 fields list) else None
 -- if it is an ARRAY, all must have its type
-meet_layer (t.Array element) list = if list_all (λ m. same_type (ty.Array element.0) m.ty) list then Some (ty.Array element.0) else None
+meet_layer (t.Array element) list = shared_type (ty.Array element.0) list
 -- otherwise
 meet_layer _ list = plain_supertype list
 

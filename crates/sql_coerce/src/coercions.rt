@@ -24,7 +24,6 @@ pub fn coerces(from: &SqlType, kind: &Kind, to: &SqlType) -> bool
     }
 }
 
-
 /// What an expression of kind other coerces to: to its own type, INT32 and UINT32 to INT64, UINT32 to UINT64, a STRUCT
 /// field by field.
 #[cycle(coerces)]

@@ -6,16 +6,13 @@ ghost use Rattle.sql_types.specs.declared.value.Value.TheVariants as value;
 ghost use Rattle.sql_coerce.specs.Casts as casts;
 
 use crate::casts::cast_plain;
-use sql_types::{
-    CallFault, FaultKind, Fields, Items, SqlType, Value, Values,
-};
+use sql_types::{CallFault, FaultKind, Fields, Items, SqlType, Value, Values};
 use std::alloc::Global;
 
 /// The value that the cast from the one type to the other gives. NULL gives NULL. The fault is CAST: an integer out of
 /// the type's range, a text that writes no value of the type, BYTES that aren't UTF-8, or a field at fault. The table of
 /// casts has the pair (`castable`), and the value fits the type that it is cast from.
 #[cycle(convert)]
-
 pub fn convert(
     alloc: Global,
     value: &Value,

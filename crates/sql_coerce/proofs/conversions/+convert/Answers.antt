@@ -11,10 +11,13 @@ convert-returns-in_default t c =
     answers_along _ _ c.cast_plain.result (plain_converted c.args.from.now c.args.to.now c.args.value.now c.in_default.not-Struct c.requires.castable c.requires.fits) c.cast_plain.ensures
 
 pub convert_struct-convert_fields-requires : goal.convert_struct-convert_fields-requires
-convert_struct-convert_fields-requires t c =
-    (search rules,
-      (struct_castable c.args.from.now c.args.to.now c.in-Struct.froms c.in-Struct-to.tos c.in-Struct.is c.in-Struct-to.is c.requires.castable,
-        struct_row c.args.from.now c.in-Struct.froms c.args.values.now c.in-Struct.is c.requires.fits))
+convert_struct-convert_fields-requires t c = (
+  search rules,
+  (
+    struct_castable c.args.from.now c.args.to.now c.in-Struct.froms c.in-Struct-to.tos c.in-Struct.is c.in-Struct-to.is c.requires.castable,
+    struct_row c.args.from.now c.in-Struct.froms c.args.values.now c.in-Struct.is c.requires.fits,
+  ),
+)
 
 pub convert_struct-returns-in_default : goal.convert_struct-returns-in_default
 convert_struct-returns-in_default t c = sym (no_struct_from c.args.from.now c.args.to.now c.args.values.now c.in_default.not-Struct)
