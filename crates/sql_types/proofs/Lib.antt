@@ -1,3 +1,11 @@
 pub mod OutcomeLaws
 pub mod Orders
 pub mod Opens
+pub mod TypeOpens
+pub mod ValueOpens
+pub mod SameLaws
+pub mod EqualSteps
+pub mod Tests
+pub mod EqualLaws
+pub mod OrderLaws
+mod Examples

@@ -1,5 +1,15 @@
 pub mod Fits
 pub mod Same
+pub mod SameValue
 pub mod Before
-pub mod Arranged
+pub mod Nulls
+pub mod Comparable
+pub mod SameType
+pub mod Sorting
 pub mod Outcome
+pub mod Logic
+pub mod Joined
+pub mod Parted
+pub mod Combined
+pub mod Arranged
+pub mod Cut

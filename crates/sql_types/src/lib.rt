@@ -2,18 +2,30 @@
 #![tactic(auto)]
 
 pub mod copies;
+pub mod equality;
 pub mod fault;
+pub mod fitting;
 pub mod kinds;
+pub mod ordering;
 pub mod rows;
+pub mod sameness;
+pub mod sorting;
+pub mod sorts;
 pub mod sql_type;
 #[cfg(test)]
 mod tests;
 pub mod value;
 
 pub use copies::{copy_columns, copy_name, copy_type, copy_value, copy_values};
+pub use equality::equal;
 pub use fault::{CallFault, FaultKind};
+pub use fitting::{all_fit, fits, row_fits};
 pub use kinds::{JoinKind, SetKind, SortItem, SortItems};
 pub use lists::{Boxed, Bytes, Items, ListType, OutOfMemory, Text};
+pub use ordering::{compare_rows, item_order, order};
 pub use rows::{Answer, Param, Params, Rows, Tables};
+pub use sameness::{same, same_row};
+pub use sorting::sorting_order;
+pub use sorts::{comparable, groupable, orderable, same_type};
 pub use sql_type::{Column, Columns, Field, Fields, Named, SqlType, Types};
 pub use value::{Value, Values};

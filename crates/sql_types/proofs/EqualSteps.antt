@@ -1,0 +1,9 @@
+-- AND over the fields of a STRUCT, one field at a time.
+use Rattle.std.proofs.Common.{◌≡◌, Bool, true, false, List, [], ◌∷◌, map, Option, None, Some, refl, ap, sym, ◌∙◌}
+use Rattle.sql_types.specs.declared.value.Value.{Value}
+use Rattle.sql_types.specs.Same.{equal, equal_fields, both_true}
+
+-- what the fields so far say, none of which is FALSE: by whether one was NULL
+abbrev pub so_far : Bool → Option Bool
+so_far true = None
+so_far false = Some true
