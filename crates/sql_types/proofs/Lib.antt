@@ -9,3 +9,8 @@ pub mod Tests
 pub mod EqualLaws
 pub mod OrderLaws
 mod Examples
+pub mod Stretches
+pub mod CalendarLaws
+pub mod CalendarCalls
+pub mod DateTextLaws
+mod CalendarExamples

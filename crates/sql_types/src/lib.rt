@@ -1,8 +1,10 @@
 //! Types, values, rows and outcomes: what every other crate speaks of.
 #![tactic(auto)]
 
+pub mod calendar;
 pub mod copies;
 pub mod equality;
+pub mod date_texts;
 pub mod fault;
 pub mod fitting;
 pub mod kinds;
@@ -16,8 +18,10 @@ pub mod sql_type;
 mod tests;
 pub mod value;
 
+pub use calendar::{CalendarDate, date_of, day_of, day_of_year, month_length};
 pub use copies::{copy_columns, copy_name, copy_type, copy_value, copy_values};
 pub use equality::equal;
+pub use date_texts::{date_text, read_date, write_date};
 pub use fault::{CallFault, FaultKind};
 pub use fitting::{all_fit, fits, row_fits};
 pub use kinds::{JoinKind, SetKind, SortItem, SortItems};
