@@ -15,7 +15,7 @@ use Rattle.sql_types.specs.declared.sql_type.SqlType.TheShapes as shapes
 use Rattle.sql_types.specs.declared.value.Value.{Value, out-Value, roll-Value, roll-out-Value}
 use Rattle.sql_types.specs.declared.value.Value.TheVariants as value
 use Rattle.sql_types.specs.declared.value.Value.TheOpen as v
-use Rattle.sql_coerce.specs.Casts.{castable, fields_castable, converted, struct_value, fields_converted, plain_cast}
+use Rattle.sql_coerce.specs.Casts.{castable, fields_castable, converted, struct_value, fields_converted, plain_cast, day_fits}
 use Rattle.sql_coerce.proofs.CastLevels.{converted_at, converted_level, castable_at, castable_level, castable_structs}
 
 abbrev Fitting : t.SqlType-F SqlType → v.Value-F Value → Type 0
@@ -54,7 +54,17 @@ plain_at (t.Array e) _ (v.Array xs) cast fit plain = cc
 plain_at l m (v.Struct xs) cast fit plain = cc
 plain_at _ m x cast fit plain = cc
 
+day-at : (l : t.SqlType-F SqlType) (x : v.Value-F Value) → Fitting l x → day_fits x ≡ true
+day-at t.Date (v.Date day) fit = fit
+day-at t.Bool (v.Date day) fit = cc
+day-at _ (v.Date day) fit = cc
+day-at l v.Null fit = refl
+day-at l _ fit = refl
+
 -- ---- a whole value
+
+pub day_fitting : (from : SqlType) (x : Value) → fits from x ≡ true → day_fits (out-Value x) ≡ true
+day_fitting from x fit = day-at (out-SqlType from) (out-Value x) (sym (fits-opens from x) ∙ fit)
 
 by-value : (from to : SqlType) (x : Value) → is_struct (out-Value x) ≡ false → castable from to ≡ true → fits from x ≡ true → converted from to x ≡ plain_cast (out-Value x) (out-SqlType to)
 by-value from to x plain cast fit =

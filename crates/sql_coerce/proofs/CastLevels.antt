@@ -8,7 +8,7 @@ use Rattle.sql_types.specs.declared.sql_type.SqlType.TheShapes as shapes
 use Rattle.sql_types.specs.declared.sql_type.SqlType.TheVariants as ty
 use Rattle.sql_types.specs.declared.value.Value.{Value, out-Value}
 use Rattle.sql_types.specs.declared.value.Value.TheOpen as v
-use Rattle.sql_coerce.specs.SameTypes.{same_type}
+use Rattle.sql_types.specs.SameType.{same_type}
 use Rattle.sql_coerce.specs.Casts.{castable, castable_layer, castable_fields, fields_castable, plain_pair, family_layer, converted, converted_layer, converted_fields, fields_converted, before_values, struct_value}
 use Rattle.sql_coerce.proofs.Opens.{castable-opens, converted-opens}
 

@@ -4,46 +4,10 @@ use Rattle.sql_types.specs.declared.sql_type.Named.{Named}
 use Rattle.sql_types.specs.declared.sql_type.SqlType.{SqlType, map-SqlType, out-SqlType}
 use Rattle.sql_types.specs.declared.sql_type.SqlType.TheOpen as t
 use Rattle.sql_types.specs.declared.sql_type.SqlType.TheShapes as shapes
-use Rattle.sql_coerce.specs.SameTypes.{same_type, same_type_layer, same_label, same_fields, same_fields_of}
+use Rattle.sql_types.specs.SameType.{same_type, same_type_layer, same_label, same_fields, same_fields_of}
 use Rattle.sql_coerce.specs.Coercions.{Part, other_coerces, other_layer, coerces_fields, fields_coerce}
 use Rattle.sql_types.specs.declared.sql_type.SqlType.TheVariants as ty
-use Rattle.sql_coerce.proofs.Opens.{same_type-opens, other_coerces-opens}
-
--- ---- the same type
-
--- the parts of the left type stand as they are
-abbrev pub same_at : t.SqlType-F SqlType → t.SqlType-F SqlType → Bool
-same_at t.Bool t.Bool = true
-same_at t.Int32 t.Int32 = true
-same_at t.Int64 t.Int64 = true
-same_at t.Uint32 t.Uint32 = true
-same_at t.Uint64 t.Uint64 = true
-same_at t.Text t.Text = true
-same_at t.Bytes t.Bytes = true
-same_at t.Date t.Date = true
-same_at (t.Array element) (t.Array other) = same_type element other
-same_at (t.Struct fs) (t.Struct gs) = same_fields_of fs gs
-same_at _ _ = false
-
-fields-same : (fs gs : List (Named SqlType)) → same_fields (map (shapes.former-SqlType-Struct-0-at-2.map SqlType (SqlType → Bool) same_type) fs) gs ≡ same_fields_of fs gs
-fields-same [] [] = refl
-fields-same [] (g ∷ gs) = refl
-fields-same (f ∷ fs) [] = refl
-fields-same (f ∷ fs) (g ∷ gs) = ap (λ b. same_label f.name g.name && (same_type f.ty g.ty && b)) (fields-same fs gs)
-
-same-moved : (x y : t.SqlType-F SqlType) → same_type_layer (map-SqlType SqlType (SqlType → Bool) same_type x) y ≡ same_at x y
-same-moved (t.Struct fs) (t.Struct gs) = fields-same fs gs
-same-moved t.Bool t.Bool = refl
-same-moved _ _ = refl
-
-pub same_type_level : (x y : SqlType) → same_type x y ≡ same_at (out-SqlType x) (out-SqlType y)
-same_type_level x y = same_type-opens x y ∙ same-moved (out-SqlType x) (out-SqlType y)
-
-pub same_arrays : (x y : SqlType) → same_type (ty.Array x) (ty.Array y) ≡ same_type x y
-same_arrays x y = same_type_level (ty.Array x) (ty.Array y) ∙ rw (ty.outs-Array x, ty.outs-Array y) refl
-
-pub same_structs : (fs gs : List (Named SqlType)) → same_type (ty.Struct fs) (ty.Struct gs) ≡ same_fields_of fs gs
-same_structs fs gs = same_type_level (ty.Struct fs) (ty.Struct gs) ∙ rw (ty.outs-Struct fs, ty.outs-Struct gs) refl
+use Rattle.sql_coerce.proofs.Opens.{other_coerces-opens}
 
 -- ---- kind other
 

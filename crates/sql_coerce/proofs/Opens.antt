@@ -4,7 +4,7 @@ use Rattle.sql_types.specs.Outcome.{Outcome}
 use Rattle.sql_types.specs.declared.sql_type.SqlType.{SqlType, map-SqlType, out-SqlType, roll-out-SqlType, fold-roll-SqlType, para-roll-SqlType}
 use Rattle.sql_types.specs.declared.sql_type.SqlType.TheOpen as t
 use Rattle.sql_types.specs.declared.value.Value.{Value, out-Value}
-use Rattle.sql_coerce.specs.SameTypes.{same_type, same_type_layer}
+use Rattle.sql_types.specs.SameType.{same_type, same_type_layer}
 use Rattle.sql_coerce.specs.Coercions.{other_coerces, other_layer}
 use Rattle.sql_coerce.specs.Supertypes.{Meet, Member, meet, meet_layer}
 use Rattle.sql_coerce.specs.Casts.{castable, castable_layer, converted, converted_layer}
@@ -12,12 +12,6 @@ use Rattle.sql_coerce.specs.Casts.{castable, castable_layer, converted, converte
 -- one level of a type, each part with what is said of it
 abbrev pub parted : {A : Type 0} → (SqlType → A) → SqlType → t.SqlType-F (SqlType × A)
 parted {A} says ty = map-SqlType SqlType (SqlType × A) (λ part. (part, says part)) (out-SqlType ty)
-
-pub same_type-opens : (left right : SqlType) → same_type left right ≡ same_type_layer (map-SqlType SqlType (SqlType → Bool) same_type (out-SqlType left)) (out-SqlType right)
-unfolding same_type
-same_type-opens left right =
-    ap (λ (f : SqlType → Bool). f right)
-    (ap same_type (sym (roll-out-SqlType left)) ∙ fold-roll-SqlType (SqlType → Bool) (λ ty other. same_type_layer ty (out-SqlType other)) (out-SqlType left))
 
 pub other_coerces-opens : (from to : SqlType) → other_coerces from to ≡ other_layer (parted other_coerces from) (out-SqlType to)
 unfolding other_coerces

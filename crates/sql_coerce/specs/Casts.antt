@@ -2,7 +2,8 @@
 use Rattle.std.specs.Prelude.{ℕ, nat_lt, ℤ, pos, negsuc, Bool, true, false, ◌&&◌, if◌then◌else◌, List, [], ◌∷◌, codes, Option, Some, None, option_map, option_and_then, Ok, Err}
 use Rattle.std.specs.Str.{is_utf8, str_eq_ignore_ascii_case}
 use Rattle.std.specs.Fmt.{signed_decimal}
-use Rattle.sql_types.specs.Fits.{within}
+use Rattle.sql_types.specs.Fits.{within, is_day}
+use Rattle.sql_types.specs.Calendar.{date_text, read_date}
 use Rattle.sql_types.specs.Outcome.{Outcome}
 use Rattle.sql_types.specs.declared.fault.FaultKind.TheVariants.{Cast}
 use Rattle.sql_types.specs.declared.sql_type.Named.{Named}
@@ -14,7 +15,7 @@ use Rattle.sql_types.specs.declared.value.Value.TheVariants as value
 use Rattle.sql_coerce.specs.declared.family.Family.{Family}
 use Rattle.sql_coerce.specs.declared.family.Family.TheVariants as family
 use Rattle.sql_coerce.specs.Numerals.{integer}
-use Rattle.sql_coerce.specs.SameTypes.{same_type}
+use Rattle.sql_types.specs.SameType.{same_type}
 
 -- ---- the pairs
 
@@ -50,6 +51,9 @@ plain_pair family.Text family.Bool = true
 -- STRING to BYTES, and BYTES to STRING
 plain_pair family.Text family.Bytes = true
 plain_pair family.Bytes family.Text = true
+-- DATE to STRING, and STRING to DATE
+plain_pair family.Date family.Text = true
+plain_pair family.Text family.Date = true
 plain_pair _ _ = false
 
 -- as many fields, each of which can be cast
@@ -139,6 +143,8 @@ cast_text text t.Text = Ok (value.Text text)
 cast_text text t.Bool = or_cast_fault (option_map value.Bool (truth_of_text text))
 -- STRING to BYTES: the UTF-8 bytes
 cast_text text t.Bytes = Ok (value.Bytes text)
+-- STRING to DATE: four digits, `-`, one or two, `-`, one or two; a date from 0001-01-01 to 9999-12-31
+cast_text text t.Date = or_cast_fault (option_map value.Date (read_date text))
 -- STRING to an integer: an optional `+` or `-`, then decimal digits or `0x` and hex digits; it fails otherwise or out
 -- of range
 cast_text text to = or_cast_fault (option_and_then (integer_value to) (integer text))
@@ -153,6 +159,8 @@ cast_bytes bytes _ = Err Cast
 abbrev pub cast_date : ℤ → t.SqlType-F SqlType → Outcome Value
 -- itself
 cast_date day t.Date = Ok (value.Date day)
+-- DATE to STRING: `YYYY-MM-DD`
+cast_date day t.Text = Ok (value.Text (date_text day))
 cast_date day _ = Err Cast
 
 -- the value of a field before those behind it; a fault of one is the fault of all
@@ -207,6 +215,11 @@ abbrev pub fields_converted : List (Named SqlType) → List (Named SqlType) → 
 fields_converted (from ∷ froms) (to ∷ tos) (x ∷ xs) = before_values (converted from.ty to.ty x) (fields_converted froms tos xs)
 fields_converted [] [] [] = Ok []
 fields_converted _ _ _ = Err Cast
+
+-- a DATE lies in its range
+abbrev pub day_fits : v.Value-F Value → Bool
+day_fits (v.Date day) = is_day day
+day_fits _ = true
 
 -- what a value that isn't a STRUCT is cast to, by the value
 abbrev pub plain_cast : v.Value-F Value → t.SqlType-F SqlType → Outcome Value

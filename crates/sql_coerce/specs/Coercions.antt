@@ -1,6 +1,7 @@
 -- Which types an expression coerces to.
-use Rattle.std.specs.Prelude.{pos, Bool, true, false, ◌&&◌, ◌||◌, List, [], ◌∷◌}
+use Rattle.std.specs.Prelude.{pos, Bool, true, false, ◌&&◌, ◌||◌, List, [], ◌∷◌, is_some}
 use Rattle.sql_types.specs.Fits.{within}
+use Rattle.sql_types.specs.Calendar.{read_date}
 use Rattle.sql_types.specs.declared.sql_type.Named.{Named}
 use Rattle.sql_types.specs.declared.sql_type.SqlType.{SqlType, out-SqlType, para-SqlType}
 use Rattle.sql_types.specs.declared.sql_type.SqlType.TheOpen as t
@@ -8,7 +9,7 @@ use Rattle.sql_types.specs.declared.value.Value.{Value, out-Value}
 use Rattle.sql_types.specs.declared.value.Value.TheOpen as v
 use Rattle.sql_coerce.specs.declared.arg.Kind.{Kind}
 use Rattle.sql_coerce.specs.declared.arg.Kind.TheVariants as kind
-use Rattle.sql_coerce.specs.SameTypes.{same_type}
+use Rattle.sql_types.specs.SameType.{same_type}
 
 -- a part of a type, with what it coerces to as kind other
 abbrev pub Part : Type 0
@@ -51,7 +52,14 @@ abbrev pub literal_layer : t.SqlType-F SqlType → v.Value-F Value → t.SqlType
 literal_layer t.Int64 (v.Int n) t.Int32 = within (pos 0) (pos 2147483647) n
 literal_layer t.Int64 (v.Int n) t.Uint32 = within (pos 0) (pos 4294967295) n
 literal_layer t.Int64 (v.Int n) t.Uint64 = within (pos 0) (pos 18446744073709551615) n
+-- a STRING literal that is a date coerces to DATE
+literal_layer t.Text (v.Text text) t.Date = is_some (read_date text)
 literal_layer _ _ _ = false
+
+-- every STRING parameter coerces to DATE
+abbrev pub parameter_layer : t.SqlType-F SqlType → t.SqlType-F SqlType → Bool
+parameter_layer t.Text t.Date = true
+parameter_layer _ _ = false
 
 abbrev pub untyped_layer : t.SqlType-F SqlType → t.SqlType-F SqlType → Bool
 -- an untyped `[]`, which has an ARRAY type, coerces to every ARRAY
@@ -63,7 +71,7 @@ untyped_layer _ _ = true
 -- whether an expression of this type and kind coerces to a type
 abbrev pub coerces : SqlType → Kind → SqlType → Bool
 coerces from (kind.Literal value) to = other_coerces from to || literal_layer (out-SqlType from) (out-Value value) (out-SqlType to)
-coerces from kind.Parameter to = other_coerces from to
+coerces from kind.Parameter to = other_coerces from to || parameter_layer (out-SqlType from) (out-SqlType to)
 coerces from kind.Untyped to = untyped_layer (out-SqlType from) (out-SqlType to)
 coerces from kind.Other to = other_coerces from to
 

@@ -1,4 +1,3 @@
-pub mod SameTypes
 pub mod Coercions
 pub mod Supertypes
 pub mod Numerals

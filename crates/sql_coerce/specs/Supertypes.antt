@@ -8,7 +8,7 @@ use Rattle.sql_types.specs.declared.sql_type.SqlType.TheVariants as ty
 use Rattle.sql_coerce.specs.declared.arg.Arg.{Arg}
 use Rattle.sql_coerce.specs.declared.arg.Kind.{Kind}
 use Rattle.sql_coerce.specs.declared.arg.Kind.TheVariants as kind
-use Rattle.sql_coerce.specs.SameTypes.{same_type}
+use Rattle.sql_types.specs.SameType.{same_type}
 use Rattle.sql_coerce.specs.Coercions.{coerces}
 
 -- ---- members

@@ -1,5 +1,6 @@
 //! What casts give.
-ghost use Rattle.std.specs.Prelude.{◌≡◌, option_and_then};
+ghost use Rattle.std.specs.Prelude.{◌≡◌, true, option_and_then};
+ghost use Rattle.sql_types.specs.Fits.{is_day};
 ghost use Rattle.sql_types.specs.declared.sql_type.SqlType.{out-SqlType};
 ghost use Rattle.sql_types.specs.declared.value.Value.{out-Value};
 ghost use Rattle.sql_types.specs.Outcome.{Answers, just};
@@ -9,12 +10,13 @@ ghost use Rattle.sql_coerce.specs.Numerals.{integer};
 
 use crate::numerals::read_integer;
 use itoa::Buffer;
-use sql_types::{Bytes, CallFault, FaultKind, Items, SqlType, Text, Value, copy_values};
+use sql_types::{Bytes, CallFault, FaultKind, Items, SqlType, Text, Value, copy_values, date_text, read_date};
 use std::alloc::Global;
 use std::str;
 
 /// What a value that isn't a STRUCT is cast to. It has this type and fits it, or is an ARRAY that is cast to its own type.
 pub(crate) fn cast_plain(alloc: Global, value: &Value, to: &SqlType) -> Result<Value, CallFault>
+    requires { casts.day_fits (out-Value value.now) ≡ true }
     ensures { Answers (just (casts.plain_cast (out-Value value.now) (out-SqlType to.now))) result }
 {
     match value {
@@ -24,7 +26,7 @@ pub(crate) fn cast_plain(alloc: Global, value: &Value, to: &SqlType) -> Result<V
         Value::Uint(number) => cast_integer(alloc, i128::from(*number), to),
         Value::Text(text) => cast_text(alloc, text, to),
         Value::Bytes(bytes) => cast_bytes(alloc, bytes, to),
-        Value::Date(day) => cast_date(*day, to),
+        Value::Date(day) => cast_date(alloc, *day, to),
         Value::Array(elements) => Ok(Value::Array(copy_values(alloc, elements)?)),
         Value::Struct(_) => Err(CallFault::Fault(FaultKind::Cast)),
     }
@@ -115,7 +117,7 @@ fn cast_integer(alloc: Global, number: i128, to: &SqlType) -> Result<Value, Call
     }
 }
 
-/// STRING to STRING, to BOOL, to BYTES and to an integer.
+/// STRING to STRING, to BOOL, to BYTES, to DATE and to an integer.
 fn cast_text(alloc: Global, text: &Text, to: &SqlType) -> Result<Value, CallFault>
     ensures { Answers (just (casts.cast_text text.now (out-SqlType to.now))) result }
 {
@@ -126,6 +128,10 @@ fn cast_text(alloc: Global, text: &Text, to: &SqlType) -> Result<Value, CallFaul
             None => Err(CallFault::Fault(FaultKind::Cast)),
         },
         SqlType::Bytes => Ok(Value::Bytes(Items::from_slice(alloc, text.as_bytes())?)),
+        SqlType::Date => match read_date(text.as_bytes()) {
+            Some(day) => Ok(Value::Date(day)),
+            None => Err(CallFault::Fault(FaultKind::Cast)),
+        },
         _ => read_value(to, text.as_bytes()).ok_or(CallFault::Fault(FaultKind::Cast)),
     }
 }
@@ -158,12 +164,14 @@ fn cast_bytes(alloc: Global, bytes: &Bytes, to: &SqlType) -> Result<Value, CallF
     }
 }
 
-/// DATE to DATE.
-fn cast_date(day: i32, to: &SqlType) -> Result<Value, CallFault>
+/// DATE to DATE and to STRING.
+fn cast_date(alloc: Global, day: i32, to: &SqlType) -> Result<Value, CallFault>
+    requires { is_day day ≡ true }
     ensures { Answers (just (casts.cast_date day (out-SqlType to.now))) result }
 {
     match to {
         SqlType::Date => Ok(Value::Date(day)),
+        SqlType::Text => Ok(Value::Text(date_text(alloc, day)?)),
         _ => Err(CallFault::Fault(FaultKind::Cast)),
     }
 }

@@ -7,8 +7,7 @@ ghost use Rattle.sql_types.specs.declared.value.Value.{out-Value};
 ghost use Rattle.sql_types.specs.declared.value.Value.TheOpen as v;
 
 use crate::arg::Kind;
-use crate::same::same_type;
-use sql_types::{Fields, SqlType, Value};
+use sql_types::{Fields, SqlType, Text, Value, read_date, same_type};
 
 /// Whether an expression of this type and kind coerces to a type. For the kind `Untyped` an ARRAY type says that the
 /// expression is `[]`, which coerces to every ARRAY, and every other type is passed over: NULL and ERROR coerce to
@@ -18,7 +17,7 @@ pub fn coerces(from: &SqlType, kind: &Kind, to: &SqlType) -> bool
 {
     match kind {
         Kind::Literal(value) => other_coerces(from, to) || literal_coerces(from, value, to),
-        Kind::Parameter => other_coerces(from, to),
+        Kind::Parameter => other_coerces(from, to) || parameter_coerces(from, to),
         Kind::Untyped => untyped_coerces(from, to),
         Kind::Other => other_coerces(from, to),
     }
@@ -71,12 +70,14 @@ fn fields_coerce(fields: &Fields, others: &Fields) -> bool
     rest.is_empty()
 }
 
-/// A non-negative INT64 literal coerces to INT32, UINT32 and UINT64 where it fits.
+/// A non-negative INT64 literal coerces to INT32, UINT32 and UINT64 where it fits, and a STRING literal that is a date to
+/// DATE.
 fn literal_coerces(from: &SqlType, value: &Value, to: &SqlType) -> bool
     ensures { result ≡ coercions.literal_layer (out-SqlType from.now) (out-Value value.now) (out-SqlType to.now) }
 {
     match (from, value) {
         (SqlType::Int64, Value::Int(number)) => number_coerces(*number, to),
+        (SqlType::Text, Value::Text(text)) => text_coerces(text, to),
         _ => false,
     }
 }
@@ -88,6 +89,25 @@ fn number_coerces(number: i64, to: &SqlType) -> bool
         SqlType::Int32 => 0 <= number && number <= i64::from(i32::MAX),
         SqlType::Uint32 => 0 <= number && number <= i64::from(u32::MAX),
         SqlType::Uint64 => 0 <= number,
+        _ => false,
+    }
+}
+
+fn text_coerces(text: &Text, to: &SqlType) -> bool
+    ensures { result ≡ coercions.literal_layer t.Text (v.Text text.now) (out-SqlType to.now) }
+{
+    match to {
+        SqlType::Date => read_date(text.as_bytes()).is_some(),
+        _ => false,
+    }
+}
+
+/// Every STRING parameter coerces to DATE.
+fn parameter_coerces(from: &SqlType, to: &SqlType) -> bool
+    ensures { result ≡ coercions.parameter_layer (out-SqlType from.now) (out-SqlType to.now) }
+{
+    match from {
+        SqlType::Text => matches!(to, SqlType::Date),
         _ => false,
     }
 }

@@ -44,12 +44,9 @@ pub fn is_plain_pair(from: Family, to: Family) -> bool
     match from {
         Family::Bool => matches!(to, Family::Bool | Family::Integer | Family::Text),
         Family::Integer => matches!(to, Family::Integer | Family::Bool | Family::Text),
-        Family::Text => matches!(
-            to,
-            Family::Text | Family::Integer | Family::Bool | Family::Bytes
-        ),
+        Family::Text => !matches!(to, Family::Array | Family::Struct),
         Family::Bytes => matches!(to, Family::Bytes | Family::Text),
-        Family::Date => matches!(to, Family::Date),
+        Family::Date => matches!(to, Family::Date | Family::Text),
         Family::Array | Family::Struct => false,
     }
 }

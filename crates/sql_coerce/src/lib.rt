@@ -10,7 +10,6 @@ mod meets;
 mod member;
 pub mod numerals;
 pub mod pairs;
-pub mod same;
 pub mod supertypes;
 
 pub use arg::{Arg, Kind};

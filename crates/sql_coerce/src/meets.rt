@@ -3,15 +3,14 @@ ghost use Rattle.std.specs.Prelude.{◌≡◌, ◌<◌, true, map, length, IfOk}
 ghost use Rattle.std.specs.List.{list_all, list_any};
 ghost use Rattle.sql_types.specs.declared.sql_type.SqlType.{out-SqlType};
 ghost use Rattle.sql_coerce.specs.declared.arg.Kind.TheVariants as kinds;
-ghost use Rattle.sql_coerce.specs.SameTypes as same;
+ghost use Rattle.sql_types.specs.SameType as same;
 ghost use Rattle.sql_coerce.specs.Coercions as coercions;
 ghost use Rattle.sql_coerce.specs.Supertypes as supertypes;
 
 use crate::arg::Kind;
 use crate::coercions::coerces;
 use crate::member::Member;
-use crate::same::same_type;
-use sql_types::{Fields, Items, ListType, Named, SqlType, copy_name, copy_type};
+use sql_types::{Fields, Items, ListType, Named, SqlType, copy_name, copy_type, same_type};
 use std::alloc::{AllocError, Global};
 
 /// The supertype of members, of which the first has this type.

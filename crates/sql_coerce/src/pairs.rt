@@ -3,11 +3,10 @@ ghost use Rattle.std.specs.Prelude.{◌≡◌};
 ghost use Rattle.sql_coerce.specs.Casts as casts;
 
 use crate::family::{family_of, is_plain_pair};
-use crate::same::same_type;
-use sql_types::{Fields, SqlType};
+use sql_types::{Fields, SqlType, same_type};
 
 /// Whether the table of casts has the pair: an integer to every integer, BOOL, an integer and STRING to one another,
-/// STRING and BYTES, a STRUCT to one of as many fields where each field has its pair, and each type to itself. It takes
+/// STRING and BYTES, DATE and STRING, a STRUCT to one of as many fields where each field has its pair, and each type to itself. It takes
 /// no memory.
 #[cycle(castable)]
 #[tactic(auto, using(crate::proofs::CastLevels::castable_level))]

@@ -3,8 +3,8 @@
 
 pub mod calendar;
 pub mod copies;
-pub mod equality;
 pub mod date_texts;
+pub mod equality;
 pub mod fault;
 pub mod fitting;
 pub mod kinds;
@@ -20,8 +20,8 @@ pub mod value;
 
 pub use calendar::{CalendarDate, date_of, day_of, day_of_year, month_length};
 pub use copies::{copy_columns, copy_name, copy_type, copy_value, copy_values};
-pub use equality::equal;
 pub use date_texts::{date_text, read_date, write_date};
+pub use equality::equal;
 pub use fault::{CallFault, FaultKind};
 pub use fitting::{all_fit, fits, row_fits};
 pub use kinds::{JoinKind, SetKind, SortItem, SortItems};

@@ -2,7 +2,7 @@ use Rattle.std.proofs.Common.{◌≡◌, sym, subst, rules, drop, List, []}
 use Rattle.std.proofs.lemmas.List.{drop_all}
 use Rattle.sql_types.specs.declared.value.Value.{Value}
 use Rattle.sql_coerce.specs.Casts.{fields_converted}
-use Rattle.sql_coerce.proofs.ByValue.{struct_castable, struct_row, plain_converted, answers_along, no_struct_from, no_struct_to, struct_ok, struct_err}
+use Rattle.sql_coerce.proofs.ByValue.{day_fitting, struct_castable, struct_row, plain_converted, answers_along, no_struct_from, no_struct_to, struct_ok, struct_err}
 use Rattle.sql_coerce.proofs.Behind.{behind_all}
 use Rattle.sql_coerce.proofs.conversions.+convert.Goals as goal
 
@@ -39,3 +39,6 @@ convert_fields-returns t c =
     let none = subst (λ (xs : List Value). drop c.loop-value.value-index xs ≡ []) c.as_slice-value-items.ensures read in
     behind_all c.loop-value.more_froms.now c.loop-value.more_tos.now (drop c.loop-value.value-index c.args.values.now) c.loop-value.converted (fields_converted c.args.froms.now c.args.tos.now c.args.values.now)
     none c.loop-value.invariant.castable c.loop-value.invariant.fits c.loop-value.invariant.same
+
+pub convert-cast_plain-requires : goal.convert-cast_plain-requires
+convert-cast_plain-requires t c = day_fitting c.args.from.now c.args.value.now c.requires.fits
