@@ -6,4 +6,6 @@ pub mod CastLaws
 pub mod ByValue
 pub mod Behind
 pub mod Numbers
+pub mod FitLaws
+pub mod ByteLaws
 mod Examples
