@@ -11,6 +11,12 @@ use crate::{
     Boxed, Columns, Items, Named, Rows, SortItem, SqlType, Text, Value, Values, all_fit,
     comparable, compare_rows, copy_columns, copy_values, equal, fits, groupable, item_order, order,
     orderable, row_fits, same, same_row, same_type, sorting_order,
+//! Rows, copies, and the calls that compare and test values and types.
+use crate::{
+    Boxed, CalendarDate, Items, Named, Rows, SortItem, SqlType, Text, Value, Values, all_fit,
+    comparable, compare_rows, copy_columns, copy_values, date_of, date_text, day_of, day_of_year,
+    equal, fits, groupable, item_order, month_length, order, orderable, read_date, row_fits, same,
+    same_row, same_type, sorting_order, write_date,
 };
 use std::alloc::{AllocError, Global};
 use std::cmp::Ordering;
@@ -171,6 +177,78 @@ const FITS: [(Plain, Form, bool); 29] = [
 
 #[test]
 fn values_fit_types(rt: HostRuntime) -> Result<(), Fail> {
+    let cases = vec![in alloc;
+        (Value::Null, SqlType::Date, true),
+        (Value::Null, array_type(alloc, SqlType::Int64)?, true),
+        (Value::Bool(true), SqlType::Bool, true),
+        (Value::Bool(true), SqlType::Int64, false),
+        (Value::Int(-2_147_483_648), SqlType::Int32, true),
+        (Value::Int(-2_147_483_649), SqlType::Int32, false),
+        (Value::Int(2_147_483_647), SqlType::Int32, true),
+        (Value::Int(2_147_483_648), SqlType::Int32, false),
+        (Value::Int(-9_223_372_036_854_775_808), SqlType::Int64, true),
+        (Value::Int(1), SqlType::Uint32, false),
+        (Value::Uint(4_294_967_295), SqlType::Uint32, true),
+        (Value::Uint(4_294_967_296), SqlType::Uint32, false),
+        (
+            Value::Uint(18_446_744_073_709_551_615),
+            SqlType::Uint64,
+            true
+        ),
+        (Value::Uint(1), SqlType::Int64, false),
+        (Value::Date(-719_162), SqlType::Date, true),
+        (Value::Date(-719_163), SqlType::Date, false),
+        (Value::Date(2_932_896), SqlType::Date, true),
+        (Value::Date(2_932_897), SqlType::Date, false),
+        (text(alloc, "h\u{e9}")?, SqlType::Text, true),
+        (text(alloc, "a")?, SqlType::Bytes, false),
+        (bytes(alloc, b"\xff")?, SqlType::Bytes, true),
+        (bytes(alloc, b"a")?, SqlType::Text, false),
+        (
+            array(vec![in alloc; Value::Int(1), Value::Null]?),
+            array_type(alloc, SqlType::Int64)?,
+            true
+        ),
+        (
+            array(vec![in alloc; Value::Int(1), Value::Bool(true)]?),
+            array_type(alloc, SqlType::Int64)?,
+            false
+        ),
+        (
+            fields(vec![in alloc; Value::Int(1), Value::Null]?),
+            pair(alloc, None, SqlType::Text)?,
+            true
+        ),
+        (
+            fields(vec![in alloc; Value::Int(1)]?),
+            pair(alloc, None, SqlType::Text)?,
+            false
+        ),
+        (
+            fields(vec![in alloc; Value::Int(1), Value::Null, Value::Null]?),
+            pair(alloc, None, SqlType::Text)?,
+            false
+        ),
+        (
+            fields(vec![in alloc; Value::Null, Value::Int(1)]?),
+            pair(alloc, None, SqlType::Text)?,
+            false
+        ),
+        (
+            array(vec![in alloc; Value::Int(1), Value::Null]?),
+            pair(alloc, None, SqlType::Text)?,
+            false
+        ),
+    ]?;
+    for (value, ty, want) in &cases {
+        assert_eq!(rt; fits(value, ty), *want);
+    }
+    Ok(())
+}
+
+/// A row of values for an INT64 and a DATE.
+#[test]
+fn rows_fit_columns(rt: HostRuntime) -> Result<(), Fail> {
     let alloc = rt.alloc();
     for (plain, form, want) in FITS {
         assert_eq!(rt; fits(&value(alloc, &plain)?, &type_of(alloc, &form)?), want);
@@ -354,6 +432,154 @@ fn rows_in_order(rt: HostRuntime) -> Result<(), Fail> {
         Ordering::Greater
     );
     Ok(())
+}
+
+/// Texts, and the days that they write.
+const DATE_TEXTS: [(&[u8], Option<i32>); 34] = [
+    (b"1970-01-01", Some(0)),
+    (b"1969-12-31", Some(-1)),
+    (b"2024-02-29", Some(19_782)),
+    (b"2024-2-9", Some(19_762)),
+    (b"2024-02-9", Some(19_762)),
+    (b"2024-2-09", Some(19_762)),
+    (b"0001-01-01", Some(-719_162)),
+    (b"9999-12-31", Some(2_932_896)),
+    (b"2000-02-29", Some(11_016)),
+    // no such day
+    (b"2023-02-29", None),
+    (b"1900-02-29", None),
+    (b"2024-04-31", None),
+    (b"2024-01-00", None),
+    (b"2024-00-01", None),
+    (b"2024-13-01", None),
+    (b"0000-01-01", None),
+    // digits that are missing or too many
+    (b"10000-01-01", None),
+    (b"999-01-01", None),
+    (b"2024-001-01", None),
+    (b"2024-01-001", None),
+    (b"2024--01", None),
+    (b"2024-01-", None),
+    (b"-2024-01-01", None),
+    // other bytes
+    (b"", None),
+    (b"2024", None),
+    (b"2024-01", None),
+    (b"2024-01-01-", None),
+    (b" 2024-01-01", None),
+    (b"2024-01-01 ", None),
+    (b"2024/01/01", None),
+    (b"2024-a-01", None),
+    (b"2024-01-+1", None),
+    (b"2O24-01-01", None),
+    (b"20240101", None),
+];
+
+#[test]
+fn reads_dates(rt: HostRuntime) -> Result<(), Fail> {
+    for (text, day) in DATE_TEXTS {
+        assert_eq!(rt; read_date(text), day);
+    }
+    Ok(())
+}
+
+/// Two types, and whether they are the same.
+#[test]
+fn types_that_are_the_same(rt: HostRuntime) -> Result<(), Fail> {
+    let alloc = rt.alloc();
+    let cases = vec![in alloc;
+        (SqlType::Int64, SqlType::Int64, true),
+        (SqlType::Int64, SqlType::Int32, false),
+        (SqlType::Text, SqlType::Bytes, false),
+        (
+            array_type(alloc, SqlType::Bool)?,
+            array_type(alloc, SqlType::Bool)?,
+            true
+        ),
+        (
+            array_type(alloc, SqlType::Bool)?,
+            array_type(alloc, SqlType::Date)?,
+            false
+        ),
+        (array_type(alloc, SqlType::Bool)?, SqlType::Bool, false),
+        (
+            pair(alloc, Some("a"), SqlType::Bool)?,
+            pair(alloc, Some("A"), SqlType::Bool)?,
+            true
+        ),
+        (
+            pair(alloc, Some("a"), SqlType::Bool)?,
+            pair(alloc, Some("b"), SqlType::Bool)?,
+            false
+        ),
+        (
+            pair(alloc, Some("a"), SqlType::Bool)?,
+            pair(alloc, None, SqlType::Bool)?,
+            false
+        ),
+        (
+            pair(alloc, None, SqlType::Bool)?,
+            pair(alloc, None, SqlType::Bool)?,
+            true
+        ),
+        (
+            pair(alloc, None, SqlType::Bool)?,
+            pair(alloc, None, SqlType::Date)?,
+            false
+        ),
+    ]?;
+    for (left, right, want) in &cases {
+        assert_eq!(rt; same_type(left, right), *want);
+    }
+    Ok(())
+}
+
+fn text(alloc: Global, text: &str) -> Result<Value, AllocError> {
+    Ok(Value::Text(Text::copy_of(alloc, text)?))
+}
+
+fn bytes(alloc: Global, bytes: &[u8]) -> Result<Value, AllocError> {
+    Ok(Value::Bytes(Items::from_slice(alloc, bytes)?))
+}
+
+fn values(list: Vec<Value>) -> Values {
+    Items::from_vec(list)
+}
+
+fn array(elements: Vec<Value>) -> Value {
+    Value::Array(values(elements))
+}
+
+fn fields(fields: Vec<Value>) -> Value {
+    Value::Struct(values(fields))
+}
+
+fn array_type(alloc: Global, element: SqlType) -> Result<SqlType, AllocError> {
+    Ok(SqlType::Array(Boxed::new(alloc, element)?))
+}
+
+/// An unnamed INT64, and then a column of this name and type.
+fn columns(
+    alloc: Global,
+    name: Option<&str>,
+    ty: SqlType,
+) -> Result<Items<Named<SqlType>>, AllocError> {
+    let name = match name {
+        None => None,
+        Some(name) => Some(Text::copy_of(alloc, name)?),
+    };
+    let mut columns = Items::new(alloc);
+    columns.push(Named {
+        name: None,
+        ty: SqlType::Int64,
+    })?;
+    columns.push(Named { name, ty })?;
+    Ok(columns)
+}
+
+/// The STRUCT of these.
+fn pair(alloc: Global, name: Option<&str>, ty: SqlType) -> Result<SqlType, AllocError> {
+    Ok(SqlType::Struct(columns(alloc, name, ty)?))
 }
 
 /// Texts, and the days that they write.

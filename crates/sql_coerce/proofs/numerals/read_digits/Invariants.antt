@@ -1,8 +1,8 @@
 -- The digits that are left, behind the number so far, write what all the digits write.
 use Rattle.std.proofs.Common.{◌≡◌, ◌<◌, ◌^◌, drop}
 use Rattle.std.specs.Prelude.{option_and_then}
-use Rattle.csv_tables.specs.Numerals.{numeral_after, only_u64}
-use Rattle.csv_tables.proofs.numerals.read_digits.Given as goal
+use Rattle.sql_coerce.specs.Numerals.{numeral_after, only_u64}
+use Rattle.sql_coerce.proofs.numerals.read_digits.Given as goal
 
 abbrev pub invariant-loop-digit : goal.invariant-loop-digit
 invariant-loop-digit l = record {

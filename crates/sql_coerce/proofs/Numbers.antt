@@ -5,7 +5,8 @@ use Rattle.std.proofs.lemmas.List.{drop_all}
 use Rattle.std.proofs.lemmas.Grind.{common_steps}
 use Rattle.std.specs.Prelude.{nat_lt, option_and_then, option_map, ℤ, pos, neg_ℤ}
 use Rattle.std.specs.Char.{is_digit, digit_value}
-use Rattle.csv_tables.specs.Numerals.{with_digit, numeral_after, only_u64, only_int64}
+use Rattle.sql_coerce.specs.Numerals.{with_digit, numeral_after, only_u64, only_int64, only_wide}
+use Rattle.sql_types.specs.Fits.{within}
 
 too_large-digit : (radix number digit : ℕ) → 1 ≤ radix → 2 ^ 64 ≤ number → 2 ^ 64 ≤ number * radix + digit
 too_large-digit radix number digit one large = omega (arith, mul-le-mul_left number one)
@@ -66,22 +67,37 @@ digits-go_on radix number next digits i some is =
     let cut : drop i digits ≡ get_or digits i 0 ∷ drop (i + 1) digits = rw (add-one, drop-cons digits i 0) refl in
     rw (cut, is) refl
 
--- a number past 64 bits is past INT64, with either sign
-above_int64 : (n : ℕ) → nat_lt n (2 ^ 64) ≡ false → only_int64 (pos n) ≡ None
-above_int64 n past = grind (arith, common_steps)
+-- a number past 64 bits is past every type
+above_wide : (n : ℕ) → nat_lt n (2 ^ 64) ≡ false → only_wide (pos n) ≡ None
+above_wide n past = grind (arith, common_steps)
 
-below_int64 : (n : ℕ) → nat_lt n (2 ^ 64) ≡ false → only_int64 (neg_ℤ (pos n)) ≡ None
-below_int64 n past = grind (arith, common_steps)
+below_wide : (n : ℕ) → nat_lt n (2 ^ 64) ≡ false → only_wide (neg_ℤ (pos n)) ≡ None
+below_wide n past = grind (arith, common_steps)
 
-past-none : (f : ℕ → Option ℤ) (n : ℕ) (b : Bool) → nat_lt n (2 ^ 64) ≡ b → (nat_lt n (2 ^ 64) ≡ false → f n ≡ None)
-    → option_and_then f (if b then Some n else None) ≡ f n
-past-none f n true test past = refl
-past-none f n false test past = sym (past test)
+within_wide : (n : ℕ) → nat_lt n (2 ^ 64) ≡ true → only_wide (pos n) ≡ Some (pos n)
+within_wide n small = grind (arith, common_steps)
 
-pub whole_positive : (o : Option ℕ) → option_and_then (λ n. only_int64 (pos n)) (option_and_then only_u64 o) ≡ option_and_then only_int64 (option_map pos o)
+minus_wide : (n : ℕ) → nat_lt n (2 ^ 64) ≡ true → only_wide (neg_ℤ (pos n)) ≡ Some (neg_ℤ (pos n))
+minus_wide n small = grind (arith, common_steps)
+
+by-test : (f : ℕ → ℤ) (n : ℕ) (b : Bool) → nat_lt n (2 ^ 64) ≡ b → (nat_lt n (2 ^ 64) ≡ false → only_wide (f n) ≡ None) → (nat_lt n (2 ^ 64) ≡ true → only_wide (f n) ≡ Some (f n))
+    → option_map f (if b then Some n else None) ≡ only_wide (f n)
+by-test f n true test past small = sym (small test)
+by-test f n false test past small = sym (past test)
+
+pub whole_positive : (o : Option ℕ) → option_map pos (option_and_then only_u64 o) ≡ option_and_then only_wide (option_map pos o)
 whole_positive None = refl
-whole_positive (Some n) = past-none (λ m. only_int64 (pos m)) n (nat_lt n (2 ^ 64)) refl (above_int64 n)
+whole_positive (Some n) = by-test pos n (nat_lt n (2 ^ 64)) refl (above_wide n) (within_wide n)
 
-pub whole_negative : (o : Option ℕ) → option_and_then (λ n. only_int64 (neg_ℤ (pos n))) (option_and_then only_u64 o) ≡ option_and_then only_int64 (option_map (λ n. neg_ℤ (pos n)) o)
+pub whole_negative : (o : Option ℕ) → option_map (λ n. neg_ℤ (pos n)) (option_and_then only_u64 o) ≡ option_and_then only_wide (option_map (λ n. neg_ℤ (pos n)) o)
 whole_negative None = refl
-whole_negative (Some n) = past-none (λ m. only_int64 (neg_ℤ (pos m))) n (nat_lt n (2 ^ 64)) refl (below_int64 n)
+whole_negative (Some n) = by-test (λ m. neg_ℤ (pos m)) n (nat_lt n (2 ^ 64)) refl (below_wide n) (minus_wide n)
+
+narrow : (n : ℤ) (b : Bool) → within (neg_ℤ (pos 18446744073709551615)) (pos 18446744073709551615) n ≡ b → option_and_then only_int64 (if b then Some n else None) ≡ only_int64 n
+narrow n true test = refl
+narrow n false test = grind (arith, common_steps)
+
+-- a number of INT64 is within 64 bits and a sign
+pub int64_first : (o : Option ℤ) → option_and_then only_int64 (option_and_then only_wide o) ≡ option_and_then only_int64 o
+int64_first None = refl
+int64_first (Some n) = narrow n (within (neg_ℤ (pos 18446744073709551615)) (pos 18446744073709551615) n) refl

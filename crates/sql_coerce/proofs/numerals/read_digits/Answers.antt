@@ -1,8 +1,8 @@
 use Rattle.std.proofs.Common.{◌∙◌, sym, ap, get_or, arith}
 use Rattle.std.specs.Prelude.{option_and_then}
-use Rattle.csv_tables.specs.Numerals.{only_u64, with_digit}
-use Rattle.csv_tables.proofs.Numbers.{digits-all, digits-end, digits-go_on, only-some}
-use Rattle.csv_tables.proofs.numerals.read_digits.Goals as goal
+use Rattle.sql_coerce.specs.Numerals.{only_u64, with_digit}
+use Rattle.sql_coerce.proofs.Numbers.{digits-all, digits-end, digits-go_on, only-some}
+use Rattle.sql_coerce.proofs.numerals.read_digits.Goals as goal
 
 pub loop-digit-preserved : goal.loop-digit-preserved
 loop-digit-preserved c =
