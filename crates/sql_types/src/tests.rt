@@ -1,22 +1,9 @@
-//! Rows, copies, spellings and dates.
+//! Rows, copies, spellings, dates, and the calls that compare and test values and types.
 use crate::{
-    Boxed, CalendarDate, Items, Named, Rows, SqlType, Text, Value, copy_columns, copy_values,
-    date_of, date_text, day_of, month_length, read_date, type_text, write_date,
-    CalendarDate, Items, Named, Rows, SqlType, Text, Value, copy_columns, copy_values, date_of,
-    date_text, day_of, day_of_year, month_length, read_date, write_date,
-};
-use std::alloc::Global;
-//! Rows, copies, and the calls that compare and test values and types.
-use crate::{
-    Boxed, Columns, Items, Named, Rows, SortItem, SqlType, Text, Value, Values, all_fit,
-    comparable, compare_rows, copy_columns, copy_values, equal, fits, groupable, item_order, order,
-    orderable, row_fits, same, same_row, same_type, sorting_order,
-//! Rows, copies, and the calls that compare and test values and types.
-use crate::{
-    Boxed, CalendarDate, Items, Named, Rows, SortItem, SqlType, Text, Value, Values, all_fit,
+    Boxed, CalendarDate, Columns, Items, Named, Rows, SortItem, SqlType, Text, Value, Values, all_fit,
     comparable, compare_rows, copy_columns, copy_values, date_of, date_text, day_of, day_of_year,
     equal, fits, groupable, item_order, month_length, order, orderable, read_date, row_fits, same,
-    same_row, same_type, sorting_order, write_date,
+    same_row, same_type, sorting_order, type_text, write_date,
 };
 use std::alloc::{AllocError, Global};
 use std::cmp::Ordering;
