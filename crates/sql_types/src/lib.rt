@@ -3,6 +3,8 @@
 
 pub mod calendar;
 pub mod copies;
+#[cfg(test)]
+mod date_tests;
 pub mod date_texts;
 pub mod equality;
 pub mod fault;
@@ -14,6 +16,8 @@ pub mod sameness;
 pub mod sorting;
 pub mod sorts;
 pub mod spelling;
+#[cfg(test)]
+mod spelling_tests;
 pub mod sql_type;
 #[cfg(test)]
 mod tests;
