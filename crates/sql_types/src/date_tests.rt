@@ -1,5 +1,7 @@
 //! Days, dates and their texts.
-use crate::{CalendarDate, date_of, date_text, day_of, day_of_year, month_length, read_date, write_date};
+use crate::{
+    CalendarDate, date_of, date_text, day_of, day_of_year, month_length, read_date, write_date,
+};
 use std::test::Fail;
 
 /// Texts, and the days that they write.
