@@ -12,3 +12,5 @@ pub mod Comparisons
 pub mod Froms
 pub mod Groupings
 pub mod Selects
+pub mod Follows
+pub mod CompleteSteps

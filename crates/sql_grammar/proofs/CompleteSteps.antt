@@ -1,0 +1,204 @@
+-- The steps of a proof that a reader reads each word, and repetitions.
+use Rattle.std.proofs.Common.{◌≡◌, ℕ, zero, suc, ◌+◌, ◌<◌, ◌≤◌, Bool, true, false, cond, List, [], ◌∷◌, ◌++◌, length, Option, Some, None, refl, sym, ◌∙◌, ap, subst, arith}
+use Rattle.std.proofs.lemmas.List.{append_assoc, append-nil, length-append}
+use Rattle.fronts.specs.Fronts.{Language}
+use Rattle.fronts.specs.Readers.{Outcome, taken, stuck, Reader, and_then, ◌>>=◌, peek, next, comes, token, many, noted, noting}
+use Rattle.fronts.proofs.Lists.{front_is}
+use Rattle.fronts.proofs.Agrees.{Many, many_none, many_more, WithText, Found}
+use Rattle.sql_ast.specs.declared.words.Reserved.{Reserved}
+use Rattle.sql_ast.specs.declared.words.Sign.{Sign}
+use Rattle.sql_ast.specs.declared.words.Word.{Word}
+use Rattle.sql_ast.specs.declared.token.Token.{Token}
+use Rattle.sql_ast.specs.declared.token.Lexeme.{Lexeme}
+use Rattle.sql_ast.specs.declared.token.Lexeme.TheVariants as l
+use Rattle.sql_ast.specs.Marks.{Tokens, Is, reserved, sign, word, named, start_of}
+use Rattle.sql_grammar.specs.Ways.{Parser, starting, place_of}
+use Rattle.sql_grammar.proofs.Marks.{AfterOf, after_of}
+use Rattle.sql_grammar.proofs.Follows.{Over, Starts, level, level_of, rank, rank_of, word_level, sign_level, word_rank, sign_rank, is_reserved, is_sign, is_named, is_word}
+
+-- A word is read, whatever follows that F lets follow, where fewer than n tokens are left.
+pub record Read {A : Type 0} (n : ℕ) (F : Tokens → Type 0) (L : Language Token A) (p : Parser A) : Type 0 where
+  pub reads : {a : A} {u : Tokens} → L a u → (rest : Tokens) → F rest → length (u ++ rest) < n → p (u ++ rest) ≡ taken a rest
+
+-- whatever follows
+abbrev pub Free : Tokens → Type 0
+Free ts = Unit {0}
+
+pub less : {A : Type 0} {n : ℕ} {F : Tokens → Type 0} {L : Language Token A} {p : Parser A} → Read (suc n) F L p → Read n F L p
+less x = record { reads = λ l rest f lt. x.reads l rest f (omega arith) }
+
+pub under : {A : Type 0} {n : ℕ} {F G : Tokens → Type 0} {L : Language Token A} {p : Parser A} → Read n F L p → ((ts : Tokens) → G ts → F ts) → Read n G L p
+under x h = record { reads = λ l rest g lt. x.reads l rest (h rest g) lt }
+
+-- ---- steps: what is left is shorter than n
+
+pub tok : {B : Type 0} {n : ℕ} {fits : Token → Bool} {t : Token} {ts : Tokens} {o : Outcome Token B} → Is fits t → (q : Token → Parser B) → (length ts < n → q t ts ≡ o) → length (t ∷ ts) < suc n
+    → and_then (token fits (t ∷ ts)) q ≡ o
+unfolding token
+tok {n = n} {t = t} {ts = ts} i q k lt = ap (λ (b : Bool). and_then (cond b (taken t ts) (stuck (t ∷ ts))) q) i.is ∙ k (omega arith)
+
+-- the same where a token isn't needed for the depth
+pub also : {B : Type 0} {n : ℕ} {fits : Token → Bool} {t : Token} {ts : Tokens} {o : Outcome Token B} → Is fits t → (q : Token → Parser B) → (length ts < n → q t ts ≡ o) → length (t ∷ ts) < n
+    → and_then (token fits (t ∷ ts)) q ≡ o
+unfolding token
+also {n = n} {t = t} {ts = ts} i q k lt = ap (λ (b : Bool). and_then (cond b (taken t ts) (stuck (t ∷ ts))) q) i.is ∙ k (omega arith)
+
+pub part : {A B : Type 0} {n : ℕ} {F : Tokens → Type 0} {L : Language Token A} {p : Parser A} {a : A} {u : Tokens} {o : Outcome Token B} → Read n F L p → L a u → (v rest : Tokens) (q : A → Parser B)
+    → F (v ++ rest) → (length (v ++ rest) < n → q a (v ++ rest) ≡ o) → length ((u ++ v) ++ rest) < n → and_then (p ((u ++ v) ++ rest)) q ≡ o
+part {A} {B} {n} {F} {L} {p} {a} {u} {o} x l v rest q f k lt =
+    let e : length ((u ++ v) ++ rest) ≡ length (u ++ (v ++ rest)) = ap length (append_assoc u v rest) in
+    let g : length (u ++ (v ++ rest)) ≡ length u + length (v ++ rest) = length-append u (v ++ rest) in
+    ap (λ (w : Tokens). and_then (p w) q) (append_assoc u v rest) ∙ ap (λ (y : Outcome Token A). and_then y q) (x.reads l (v ++ rest) f (omega arith)) ∙ k (omega arith)
+
+pub last : {A B : Type 0} {n : ℕ} {F : Tokens → Type 0} {L : Language Token A} {p : Parser A} {a : A} {u rest : Tokens} {o : Outcome Token B} → Read n F L p → L a u → (q : A → Parser B)
+    → F rest → (length rest < n → q a rest ≡ o) → length (u ++ rest) < n → and_then (p (u ++ rest)) q ≡ o
+last {A} {B} {n} {F} {L} {p} {a} {u} {rest} {o} x l q f k lt =
+    let g : length (u ++ rest) ≡ length u + length rest = length-append u rest in
+    ap (λ (y : Outcome Token A). and_then y q) (x.reads l rest f lt) ∙ k (omega arith)
+
+-- a word that is all that a reader reads
+pub only : {A : Type 0} {n : ℕ} {F : Tokens → Type 0} {L : Language Token A} {p : Parser A} {a : A} {u rest : Tokens} → Read n F L p → L a u → F rest → length (u ++ rest) < n → p (u ++ rest) ≡ taken a rest
+only {rest = rest} x l f lt = x.reads l rest f lt
+
+pub yes : {N X : Type 0} {b : Bool} {z : X} → b ≡ true → (x y : X) → (N → x ≡ z) → N → cond b x y ≡ z
+yes h x y k lt = ap (λ c. cond c x y) h ∙ k lt
+
+pub no_ : {N X : Type 0} {b : Bool} {z : X} → b ≡ false → (x y : X) → (N → y ≡ z) → N → cond b x y ≡ z
+no_ h x y k lt = ap (λ c. cond c x y) h ∙ k lt
+
+pub peeked : {B K N : Type 0} (key : Option Token → K) (f : K → Parser B) {ts : Tokens} {k : K} {o : Outcome Token B} → key (next ts) ≡ k → (N → f k ts ≡ o) → N → and_then (peek key ts) f ≡ o
+peeked key f {ts} e h lt = ap (λ k. f k ts) e ∙ h lt
+
+pub done : {N X : Type 0} {x : X} → N → x ≡ x
+done lt = refl
+
+-- ---- what the next token isn't
+
+pub refute : (b : Bool) → (b ≡ true → ⊥) → b ≡ false
+refute true h = absurd (h refl)
+refute false h = refl
+
+module _ {k : ℕ} where
+  level_not : (f : Lexeme → ℕ) (c x : Lexeme) → f c ≤ k → k < f x → x ≡ c → ⊥
+  level_not f c x le lt e = let g : f x ≡ f c = ap f e in omega arith
+
+  pub over_not_r : {ts : Tokens} → Over k ts → (x : Reserved) → word_level x ≤ k → comes (reserved x) ts ≡ false
+  over_not_r {ts = []} h x le = refl
+  over_not_r {ts = t ∷ ts} h x le = refute (reserved x t) (λ e. level_not level (l.Reserved x) t.lexeme le h.over (is_reserved {t = t} (record { is = e })))
+
+  pub over_not_s : {ts : Tokens} → Over k ts → (x : Sign) → sign_level x ≤ k → comes (sign x) ts ≡ false
+  over_not_s {ts = []} h x le = refl
+  over_not_s {ts = t ∷ ts} h x le = refute (sign x t) (λ e. level_not level (l.Sign x) t.lexeme le h.over (is_sign {t = t} (record { is = e })))
+
+  pub over_not_n : {ts : Tokens} → Over k ts → 11 ≤ k → comes named ts ≡ false
+  over_not_n {ts = []} h le = refl
+  over_not_n {ts = t ∷ ts} h le = refute (named t) (λ e. let g = is_named {t = t} (record { is = e }) in let f : level t.lexeme ≡ 11 = ap level g.is in let i = h.over in omega arith)
+
+  pub over_not_w : {ts : Tokens} → Over k ts → (x : Word) → 11 ≤ k → comes (word x) ts ≡ false
+  over_not_w {ts = []} h x le = refl
+  over_not_w {ts = t ∷ ts} h x le = refute (word x t) (λ e. let g = is_word {t = t} (record { is = e }) in let f : level t.lexeme ≡ 11 = ap level g.is in let i = h.over in omega arith)
+
+  pub starts_not_r : {ts : Tokens} → Starts k ts → (x : Reserved) → k < word_rank x → comes (reserved x) ts ≡ false
+  starts_not_r {ts = []} h x le = refl
+  starts_not_r {ts = t ∷ ts} h x le = refute (reserved x t) (λ e. let f : rank t.lexeme ≡ word_rank x = ap rank (is_reserved {t = t} (record { is = e })) in let i = h.starts in omega arith)
+
+  pub starts_not_s : {ts : Tokens} → Starts k ts → (x : Sign) → k < sign_rank x → comes (sign x) ts ≡ false
+  starts_not_s {ts = []} h x le = refl
+  starts_not_s {ts = t ∷ ts} h x le = refute (sign x t) (λ e. let f : rank t.lexeme ≡ sign_rank x = ap rank (is_sign {t = t} (record { is = e })) in let i = h.starts in omega arith)
+
+pub weak : {j k : ℕ} {ts : Tokens} → j ≤ k → Over k ts → Over j ts
+weak le h = record { over = let i = h.over in omega arith }
+
+pub over_end : {k : ℕ} → k < 100 → Over k []
+over_end lt = record { over = lt }
+
+pub over_r : {k : ℕ} {t : Token} {ts : Tokens} (x : Reserved) → Is (reserved x) t → k < word_level x → Over k (t ∷ ts)
+over_r {k} {t} x i lt = record { over = let e : level t.lexeme ≡ word_level x = ap level (is_reserved i) in omega arith }
+
+pub over_s : {k : ℕ} {t : Token} {ts : Tokens} (x : Sign) → Is (sign x) t → k < sign_level x → Over k (t ∷ ts)
+over_s {k} {t} x i lt = record { over = let e : level t.lexeme ≡ sign_level x = ap level (is_sign i) in omega arith }
+
+pub over_n : {k : ℕ} {t : Token} {ts : Tokens} → Is named t → k < 11 → Over k (t ∷ ts)
+over_n {k} {t} i lt = record { over = let e : level t.lexeme ≡ 11 = ap level (is_named i).is in omega arith }
+
+pub over_w : {k : ℕ} {t : Token} {ts : Tokens} (x : Word) → Is (word x) t → k < 11 → Over k (t ∷ ts)
+over_w {k} {t} x i lt = record { over = let e : level t.lexeme ≡ 11 = ap level (is_word i).is in omega arith }
+
+-- what a test says of a token that is known
+pub r_test : {x : Reserved} {t : Token} {X : Type 0} {b : X} (f : Lexeme → X) → Is (reserved x) t → f (l.Reserved x) ≡ b → f t.lexeme ≡ b
+r_test f i h = ap f (is_reserved i) ∙ h
+
+pub s_test : {x : Sign} {t : Token} {X : Type 0} {b : X} (f : Lexeme → X) → Is (sign x) t → f (l.Sign x) ≡ b → f t.lexeme ≡ b
+s_test f i h = ap f (is_sign i) ∙ h
+
+-- ---- parts that may be nothing, before more
+
+-- what stands before the rest begins with a token of this level, or is nothing
+pub record Ahead (j : ℕ) (v : Tokens) : Type 0 where
+  pub ahead : (k : ℕ) (rest : Tokens) → k < j → Over k rest → Over k (v ++ rest)
+
+pub on : {j k : ℕ} {v : Tokens} (w rest : Tokens) → Ahead j v → k < j → Over k (w ++ rest) → Over k ((v ++ w) ++ rest)
+on {j} {k} {v} w rest x lt h = subst (Over k) (sym (append_assoc v w rest)) (x.ahead k (w ++ rest) lt h)
+
+pub to : {j k : ℕ} {v rest : Tokens} → Ahead j v → k < j → Over k rest → Over k (v ++ rest)
+to {k = k} {rest = rest} x lt h = x.ahead k rest lt h
+
+pub nothing_ahead : {j : ℕ} → Ahead j []
+nothing_ahead = record { ahead = λ k rest lt h. h }
+
+pub level_ahead : {j : ℕ} {t : Token} {v : Tokens} → level t.lexeme ≡ j → Ahead j (t ∷ v)
+level_ahead {j} {t} e = record { ahead = λ k rest lt h. record { over = let g = e in omega arith } }
+
+pub r_ahead : {t : Token} {v : Tokens} (x : Reserved) → Is (reserved x) t → Ahead (word_level x) (t ∷ v)
+r_ahead x i = level_ahead (ap level (is_reserved i))
+
+pub s_ahead : {t : Token} {v : Tokens} (x : Sign) → Is (sign x) t → Ahead (sign_level x) (t ∷ v)
+s_ahead x i = level_ahead (ap level (is_sign i))
+
+-- ---- words whose first token is known
+
+pub starts_front : {k : ℕ} (u v rest : Tokens) → Starts k (u ++ (v ++ rest)) → Starts k ((u ++ v) ++ rest)
+starts_front {k} u v rest h = subst (Starts k) (sym (append_assoc u v rest)) h
+
+pub starts_weak : {j k : ℕ} {ts : Tokens} → j ≤ k → Starts j ts → Starts k ts
+starts_weak le h = record { starts = let i = h.starts in omega arith }
+
+-- ---- repetitions
+
+pub after_read : {A : Type 0} {n : ℕ} {F : Tokens → Type 0} {L : Language Token A} {fits : Token → Bool} {p : Parser A} → Read n F L p → Read (suc n) F (AfterOf fits L) (token fits >>= (λ _. p))
+after_read {A} {n} {F} {L} {fits} {p} x = record { reads = by }
+  where
+    by : {a : A} {u : Tokens} → AfterOf fits L a u → (rest : Tokens) → F rest → length (u ++ rest) < suc n → (token fits >>= (λ _. p)) (u ++ rest) ≡ taken a rest
+    by (after_of {t = t} {a = a} {u = u} i l) rest f lt = tok i _ (λ lt. x.reads l rest f lt) lt
+
+module _ {A : Type 0} (E F : Tokens → Type 0) (n : ℕ) (L : Language Token A) (fits : Token → Bool) (item : Parser A)
+    (stops : (ts : Tokens) → E ts → comes fits ts ≡ false) (over : (t : Token) (ts : Tokens) → fits t ≡ true → F (t ∷ ts)) (down : (ts : Tokens) → E ts → F ts)
+    (begins : (a : A) (u rest : Tokens) → L a u → comes fits (u ++ rest) ≡ true) (x : Read (suc n) F L item) where
+  over_next : (ts : Tokens) → comes fits ts ≡ true → F ts
+  over_next [] h = absurd cc
+  over_next (t ∷ ts) h = over t ts h
+
+  solid : (a : A) (u : Tokens) → L a u → 1 ≤ length u
+  solid a [] l = absurd (let h : false ≡ true = begins a [] [] l in cc)
+  solid a (t ∷ u) l = omega arith
+
+  pub many_follows : {ls : List A} {v : Tokens} (rest : Tokens) → Many L ls v → E rest → F (v ++ rest)
+  many_follows rest many_none h = down rest h
+  many_follows rest (many_more {a = a} {u = u} {v = v} l s) h = subst F (sym (append_assoc u v rest)) (over_next (u ++ (v ++ rest)) (begins a u (v ++ rest) l))
+
+  many_by : {ls : List A} {v : Tokens} → Many L ls v → (m : ℕ) (found : List A) (rest : Tokens) → E rest → length (v ++ rest) ≤ m → length (v ++ rest) < suc n
+      → many fits item m found (v ++ rest) ≡ taken (found ++ ls) rest
+  unfolding many
+  many_by many_none zero found rest h le lt = no_ (stops rest h) _ _ (λ _. ap (λ (b : List A). taken b rest) (sym (append-nil found))) lt
+  many_by many_none (suc m) found rest h le lt = no_ (stops rest h) _ _ (λ _. ap (λ (b : List A). taken b rest) (sym (append-nil found))) lt
+  many_by (many_more {a = a} {u = u} {ls = ls} {v = v} l s) zero found rest h le lt =
+      let g = solid a u l in let e = length-append (u ++ v) rest in let f = length-append u v in absurd (omega arith)
+  many_by (many_more {a = a} {u = u} {ls = ls} {v = v} l s) (suc m) found rest h le lt =
+      let g = solid a u l in
+      let e : length ((u ++ v) ++ rest) ≡ length (u ++ (v ++ rest)) = ap length (append_assoc u v rest) in
+      let f = length-append u (v ++ rest) in
+      yes (ap (comes fits) (append_assoc u v rest) ∙ begins a u (v ++ rest) l) _ _
+      (part x l v rest _ (many_follows rest s h) (λ lt. many_by s m (found ++ a ∷ []) rest h (omega arith) lt ∙ ap (λ (b : List A). taken b rest) (append_assoc found (a ∷ []) ls))) lt
+
+  pub many_read : {LS : Language Token (List A)} (found : List A) → ((ls : List A) (v : Tokens) → LS ls v → Many L ls v) → Read (suc n) E (Found LS found) (many fits item n found)
+  many_read {LS} found view = record { reads = λ (ls, z, e) rest h lt. many_by (view ls _ z) n found rest h (omega arith) lt ∙ ap (λ (b : List A). taken b rest) (sym e) }
