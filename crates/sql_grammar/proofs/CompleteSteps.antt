@@ -7,6 +7,7 @@ use Rattle.fronts.proofs.Lists.{front_is}
 use Rattle.fronts.proofs.Agrees.{Many, many_none, many_more, WithText, Found}
 use Rattle.sql_ast.specs.declared.words.Reserved.{Reserved}
 use Rattle.sql_ast.specs.declared.words.Sign.{Sign}
+use Rattle.sql_ast.specs.declared.words.Sign.TheVariants as s
 use Rattle.sql_ast.specs.declared.words.Word.{Word}
 use Rattle.sql_ast.specs.declared.token.Token.{Token}
 use Rattle.sql_ast.specs.declared.token.Lexeme.{Lexeme}
@@ -125,11 +126,11 @@ pub over_w : {k : ℕ} {t : Token} {ts : Tokens} (x : Word) → Is (word x) t �
 over_w {k} {t} x i lt = record { over = let e : level t.lexeme ≡ 11 = ap level (is_word i).is in omega arith }
 
 -- what a test says of a token that is known
-pub r_test : {x : Reserved} {t : Token} {X : Type 0} {b : X} (f : Lexeme → X) → Is (reserved x) t → f (l.Reserved x) ≡ b → f t.lexeme ≡ b
-r_test f i h = ap f (is_reserved i) ∙ h
+pub r_test : {t : Token} {X : Type 0} {b : X} (x : Reserved) (f : Lexeme → X) → Is (reserved x) t → f (l.Reserved x) ≡ b → f t.lexeme ≡ b
+r_test x f i h = ap f (is_reserved i) ∙ h
 
-pub s_test : {x : Sign} {t : Token} {X : Type 0} {b : X} (f : Lexeme → X) → Is (sign x) t → f (l.Sign x) ≡ b → f t.lexeme ≡ b
-s_test f i h = ap f (is_sign i) ∙ h
+pub s_test : {t : Token} {X : Type 0} {b : X} (x : Sign) (f : Lexeme → X) → Is (sign x) t → f (l.Sign x) ≡ b → f t.lexeme ≡ b
+s_test x f i h = ap f (is_sign i) ∙ h
 
 -- ---- parts that may be nothing, before more
 
@@ -202,3 +203,51 @@ module _ {A : Type 0} (E F : Tokens → Type 0) (n : ℕ) (L : Language Token A)
 
   pub many_read : {LS : Language Token (List A)} (found : List A) → ((ls : List A) (v : Tokens) → LS ls v → Many L ls v) → Read (suc n) E (Found LS found) (many fits item n found)
   many_read {LS} found view = record { reads = λ (ls, z, e) rest h lt. many_by (view ls _ z) n found rest h (omega arith) lt ∙ ap (λ (b : List A). taken b rest) (sym e) }
+
+-- a token that fits doesn't come next
+pub record Not (fits : Token → Bool) (ts : Tokens) : Type 0 where
+  pub is : comes fits ts ≡ false
+
+module _ {A : Type 0} {n : ℕ} {L : Language Token A} {LS : Language Token (List A)} {fits : Token → Bool} {item : Parser A} where
+  pub free_many : ((a : A) (u rest : Tokens) → L a u → comes fits (u ++ rest) ≡ true) → Read (suc n) Free L item → (found : List A) → ((ls : List A) (v : Tokens) → LS ls v → Many L ls v)
+      → Read (suc n) (Not fits) (Found LS found) (many fits item n found)
+  free_many begins x found view = many_read (Not fits) Free n L fits item (λ ts h. h.is) (λ t ts h. tt) (λ ts h. tt) begins x found view
+
+module _ {j k : ℕ} (fits : Token → Bool) (levels : (t : Token) → fits t ≡ true → level t.lexeme ≡ k) (lt : j < k) where
+  over_stops : (ts : Tokens) → Over k ts → comes fits ts ≡ false
+  over_stops [] h = refl
+  over_stops (t ∷ ts) h = refute (fits t) (λ e. let g = levels t e in let i = h.over in omega arith)
+
+  over_over : (t : Token) (ts : Tokens) → fits t ≡ true → Over j (t ∷ ts)
+  over_over t ts e = record { over = let g = levels t e in omega arith }
+
+  module _ {A : Type 0} {n : ℕ} {L : Language Token A} {item : Parser A} (begins : (a : A) (u rest : Tokens) → L a u → comes fits (u ++ rest) ≡ true) (x : Read (suc n) (Over j) L item) where
+    pub over_many : {LS : Language Token (List A)} (found : List A) → ((ls : List A) (v : Tokens) → LS ls v → Many L ls v) → Read (suc n) (Over k) (Found LS found) (many fits item n found)
+    over_many found view = many_read (Over k) (Over j) n L fits item over_stops over_over (λ ts h. weak (omega arith) h) begins x found view
+
+  module _ {A : Type 0} {L : Language Token A} (begins : (a : A) (u rest : Tokens) → L a u → comes fits (u ++ rest) ≡ true) where
+    each_ahead : (ls : List A) (v : Tokens) → Many L ls v → (i : ℕ) (rest : Tokens) → i < k → Over i rest → Over i (v ++ rest)
+    each_ahead _ _ many_none i rest le h = h
+    each_ahead _ _ (many_more {a = a} {u = u} {ls = ls} {v = v} l z) i rest le h = subst (Over i) (sym (append_assoc u v rest)) (front (u ++ (v ++ rest)) (begins a u (v ++ rest) l))
+      where
+        front : (ts : Tokens) → comes fits ts ≡ true → Over i ts
+        front [] e = absurd cc
+        front (t ∷ ts) e = record { over = let g = levels t e in omega arith }
+
+    pub many_ahead : (ls : List A) (v : Tokens) → Many L ls v → Ahead k v
+    many_ahead ls v z = record { ahead = λ i rest le h. each_ahead ls v z i rest le h }
+
+pub after_begins : {A : Type 0} (fits : Token → Bool) (L : Language Token A) (a : A) (u rest : Tokens) → AfterOf fits L a u → comes fits (u ++ rest) ≡ true
+after_begins fits L _ _ rest (after_of i l) = i.is
+
+pub comma_level : (t : Token) → sign s.Comma t ≡ true → level t.lexeme ≡ 15
+comma_level t h = ap level (is_sign {t = t} (record { is = h }))
+
+pub n_test : {t : Token} {X : Type 0} {b : X} (f : Lexeme → X) → Is named t → ((n : List ℕ) (o : Option Word) → f (l.Name n o) ≡ b) → f t.lexeme ≡ b
+n_test f i h = let g = is_named i in ap f g.is ∙ h g.letters g.spells
+
+pub w_test : {t : Token} {X : Type 0} {b : X} (x : Word) (f : Lexeme → X) → Is (word x) t → ((n : List ℕ) → f (l.Name n (Some x)) ≡ b) → f t.lexeme ≡ b
+w_test x f i h = let g = is_word i in ap f g.is ∙ h g.letters
+
+pub record Comes (fits : Token → Bool) (ts : Tokens) : Type 0 where
+  pub is : comes fits ts ≡ true

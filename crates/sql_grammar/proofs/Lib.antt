@@ -14,3 +14,4 @@ pub mod Groupings
 pub mod Selects
 pub mod Follows
 pub mod CompleteSteps
+pub mod CompleteWords
