@@ -15,3 +15,4 @@ pub mod Selects
 pub mod Follows
 pub mod CompleteSteps
 pub mod CompleteWords
+pub mod CompleteTypes
