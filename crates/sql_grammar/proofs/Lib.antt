@@ -16,3 +16,4 @@ pub mod Follows
 pub mod CompleteSteps
 pub mod CompleteWords
 pub mod CompleteTypes
+pub mod CompleteStarts
