@@ -17,3 +17,4 @@ pub mod CompleteSteps
 pub mod CompleteWords
 pub mod CompleteTypes
 pub mod CompleteStarts
+pub mod CompleteRepeats
