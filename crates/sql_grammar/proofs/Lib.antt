@@ -18,3 +18,4 @@ pub mod CompleteWords
 pub mod CompleteTypes
 pub mod CompleteStarts
 pub mod CompleteRepeats
+pub mod CompleteChains
