@@ -19,3 +19,4 @@ pub mod CompleteTypes
 pub mod CompleteStarts
 pub mod CompleteRepeats
 pub mod CompleteChains
+pub mod CompleteLevels
