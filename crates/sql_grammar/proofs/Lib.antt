@@ -20,3 +20,4 @@ pub mod CompleteStarts
 pub mod CompleteRepeats
 pub mod CompleteChains
 pub mod CompleteLevels
+pub mod CompleteParts
