@@ -83,9 +83,12 @@ module _ (n : ℕ) (b : Below) (x : Reading n b) where
           subst (λ (w : Tokens). length (w ++ rest) < n → (b.inner >>= (λ a. list_closed n b close (a ∷ []))) (w ++ rest) ≡ taken (a ∷ bs) rest) (sym (append_assoc u v (c ∷ [])))
           (part x.inner l (v ++ (c ∷ [])) rest (λ a. list_closed n b close (a ∷ [])) (closed_over close e bs v z c ic rest) (only (less (list_closed_read close e (a ∷ []))) (commas_closed z ic) tt))
 
-  pub list_read : (o c : Token) → Is (sign s.OpenRound) o → Is (sign s.CloseRound) c → (xs : List Expr) (u : Tokens) → ListOf xs u → (rest : Tokens) → length ((o ∷ (u ++ (c ∷ []))) ++ rest) < suc n → list n b ((o ∷ (u ++ (c ∷ []))) ++ rest) ≡ taken xs rest
+  pub list_read : Read (suc n) Free (Bracketed ListOf) (list n b)
   unfolding list
-  list_read o c io ic xs u l rest = tok io _ (only (all_closed_read s.CloseRound refl) (closed_is l ic) tt)
+  list_read = record { reads = by }
+    where
+      by : {a : List Expr} {u : Tokens} → Bracketed ListOf a u → (rest : Tokens) → Unit {0} → length (u ++ rest) < suc n → list n b (u ++ rest) ≡ taken a rest
+      by (bracketed_is io l ic) rest f = tok io _ (only (all_closed_read s.CloseRound refl) (closed_is l ic) tt)
 
   pub bracketed_read : Read (suc n) Free (Bracketed ExprOf) (bracketed n b)
   unfolding bracketed

@@ -21,3 +21,4 @@ pub mod CompleteRepeats
 pub mod CompleteChains
 pub mod CompleteLevels
 pub mod CompleteParts
+pub mod CompleteComparisons
