@@ -22,3 +22,4 @@ pub mod CompleteChains
 pub mod CompleteLevels
 pub mod CompleteParts
 pub mod CompleteComparisons
+pub mod CompleteExprs
