@@ -81,7 +81,7 @@ function_rank (l.Reserved _) f h = absurd cc
 function_rank (l.Sign y) f h = absurd cc
 function_rank _ f h = refl
 
-prefix_rank : (x : Lexeme) (f : Signed) → prefix_lexeme x ≡ Some f → rank x ≡ 2
+pub prefix_rank : (x : Lexeme) (f : Signed) → prefix_lexeme x ≡ Some f → rank x ≡ 2
 prefix_rank (l.Sign s.Plus) f h = refl
 prefix_rank (l.Sign s.Minus) f h = refl
 prefix_rank (l.Sign s.Tilde) f h = refl

@@ -23,3 +23,4 @@ pub mod CompleteLevels
 pub mod CompleteParts
 pub mod CompleteComparisons
 pub mod CompleteExprs
+pub mod CompleteFronts
