@@ -24,3 +24,4 @@ pub mod CompleteParts
 pub mod CompleteComparisons
 pub mod CompleteExprs
 pub mod CompleteFronts
+pub mod CompleteCalls
