@@ -118,7 +118,7 @@ ends_not_distinct_by (l.Reserved r.Limit) h = refl
 ends_not_distinct_by (l.Reserved _) h = absurd cc
 ends_not_distinct_by _ h = refl
 
-ends_not_distinct : (ts : Tokens) → Ends ts → comes (reserved r.Distinct) ts ≡ false
+pub ends_not_distinct : (ts : Tokens) → Ends ts → comes (reserved r.Distinct) ts ≡ false
 ends_not_distinct [] h = refl
 ends_not_distinct (t ∷ ts) h = ends_not_distinct_by t.lexeme h.is
 

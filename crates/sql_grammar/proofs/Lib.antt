@@ -25,3 +25,4 @@ pub mod CompleteComparisons
 pub mod CompleteExprs
 pub mod CompleteFronts
 pub mod CompleteCalls
+pub mod CompleteTails
