@@ -12,7 +12,7 @@ use Rattle.sql_ast.specs.declared.words.Word.{Word}
 use Rattle.sql_ast.specs.declared.token.Token.{Token}
 use Rattle.sql_ast.specs.declared.token.Lexeme.{Lexeme}
 use Rattle.sql_ast.specs.declared.token.Lexeme.TheVariants as l
-use Rattle.sql_ast.specs.Marks.{Tokens, Is, reserved, sign, word, named, start_of}
+use Rattle.sql_ast.specs.Marks.{Tokens, Is, reserved, sign, word, named, start_of, same_reserved, reserved_lexeme}
 use Rattle.sql_grammar.specs.Ways.{Parser, starting, place_of}
 use Rattle.sql_grammar.proofs.Marks.{AfterOf, after_of}
 use Rattle.sql_grammar.proofs.Follows.{Over, Starts, level, level_of, rank, rank_of, word_level, sign_level, word_rank, sign_rank, is_reserved, is_sign, is_named, is_word}
@@ -251,3 +251,17 @@ w_test x f i h = let g = is_word i in ap f g.is ∙ h g.letters
 
 pub record Comes (fits : Token → Bool) (ts : Tokens) : Type 0 where
   pub is : comes fits ts ≡ true
+
+-- a reader inside another, whose answer is known
+pub inside : {A B N : Type 0} {x : Outcome Token A} {a : A} {rest : Tokens} {o : Outcome Token B} → (N → x ≡ taken a rest) → (q : A → Parser B) → (N → q a rest ≡ o) → N → and_then x q ≡ o
+inside h q k lt = ap (λ y. and_then y q) (h lt) ∙ k lt
+
+-- ---- a token of which the test is known, as the next
+
+pub comes_r_over : {k : ℕ} (ts : Tokens) (x : Reserved) → Comes (reserved x) ts → k < word_level x → Over k ts
+comes_r_over [] x h lt = absurd (let g = h.is in cc)
+comes_r_over (t ∷ ts) x h lt = over_r {t = t} x (record { is = h.is }) lt
+
+pub comes_r_not : (ts : Tokens) (x y : Reserved) → Comes (reserved x) ts → same_reserved y x ≡ false → comes (reserved y) ts ≡ false
+comes_r_not [] x y h e = refl
+comes_r_not (t ∷ ts) x y h e = r_test {t = t} x (reserved_lexeme y) (record { is = h.is }) e

@@ -26,3 +26,4 @@ pub mod CompleteExprs
 pub mod CompleteFronts
 pub mod CompleteCalls
 pub mod CompleteTails
+pub mod CompleteBasics
