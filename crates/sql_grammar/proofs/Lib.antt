@@ -27,3 +27,4 @@ pub mod CompleteFronts
 pub mod CompleteCalls
 pub mod CompleteTails
 pub mod CompleteBasics
+pub mod CompleteHeld
