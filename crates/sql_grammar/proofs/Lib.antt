@@ -28,3 +28,4 @@ pub mod CompleteCalls
 pub mod CompleteTails
 pub mod CompleteBasics
 pub mod CompleteHeld
+pub mod CompletePostfix
