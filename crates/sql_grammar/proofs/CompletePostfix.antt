@@ -90,20 +90,20 @@ part_next_level (l.Sign s.OpenSquare) h = absurd (omega arith)
 part_next_level (l.Sign _) h = refl
 part_next_level _ h = refl
 
-no_part : (ts : Tokens) → Over 1 ts → comes part_next ts ≡ false
+pub no_part : (ts : Tokens) → Over 1 ts → comes part_next ts ≡ false
 no_part [] h = refl
 no_part (t ∷ ts) h = part_next_level t.lexeme h.over
 
-part_begins : (p : Part Expr) (u rest : Tokens) → PartOf p u → comes part_next (u ++ rest) ≡ true
+pub part_begins : (p : Part Expr) (u rest : Tokens) → PartOf p u → comes part_next (u ++ rest) ≡ true
 unfolding same_sign
 part_begins _ _ rest (part_field {t = t} i j) = ap (λ c. c || sign s.OpenSquare t) i.is
 part_begins _ _ rest (part_index {b = t} i j io l ic id) = ap (λ c. c || sign s.OpenSquare t) (s_test s.OpenSquare (sign_lexeme s.Dot) i refl) ∙ i.is
 
-many_parts : (ps : List (Part Expr)) (v : Tokens) → PartsOf ps v → Many PartOf ps v
+pub many_parts : (ps : List (Part Expr)) (v : Tokens) → PartsOf ps v → Many PartOf ps v
 many_parts _ _ parts_none = many_none
 many_parts _ _ (parts_more {ps = ps} {v = v} l z) = many_more l (many_parts ps v z)
 
-not_starred : (star : Bool) {t : Token} → Is named t → starred star t ≡ false
+pub not_starred : (star : Bool) {t : Token} → Is named t → starred star t ≡ false
 not_starred true i = n_test (sign_lexeme s.Star) i (λ n o. refl)
 not_starred false i = refl
 

@@ -29,3 +29,4 @@ pub mod CompleteTails
 pub mod CompleteBasics
 pub mod CompleteHeld
 pub mod CompletePostfix
+pub mod CompleteStars
