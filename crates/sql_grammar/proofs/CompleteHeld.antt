@@ -1,8 +1,8 @@
 -- What parentheses hold is read, a query or expressions; and so are the expressions in parentheses.
 use Rattle.std.proofs.Common.{◌≡◌, ℕ, suc, ◌<◌, ◌≤◌, Bool, true, false, List, [], ◌∷◌, ◌++◌, length, Option, Some, None, refl, sym, ◌∙◌, ap, subst, arith}
-use Rattle.std.proofs.lemmas.List.{append_assoc, append-nil}
+use Rattle.std.proofs.lemmas.List.{append_assoc, append-nil, length-append}
 use Rattle.fronts.specs.Fronts.{Language}
-use Rattle.fronts.specs.Readers.{Outcome, taken, ◌>>=◌, pure, if_comes, comes, next}
+use Rattle.fronts.specs.Readers.{Outcome, taken, ◌>>=◌, and_then, pure, if_comes, comes, next}
 use Rattle.sql_types.specs.declared.kinds.SetKind.{SetKind}
 use Rattle.sql_types.specs.declared.kinds.SetKind.TheVariants as set
 use Rattle.sql_ast.specs.declared.clauses.Binding.{Binding}
@@ -159,11 +159,16 @@ module _ (n : ℕ) (b : Below) (x : Reading n b) where
 
   -- the first begins with WITH
   held_with_read : (t : Token) (w y : Tokens) (d a : Expr) → BasicOf d (t ∷ w) → Is (reserved r.With) t → ExprOf a ((t ∷ w) ++ y) → (bs : List Expr) (v : Tokens) → CommasOf bs v → alone (a ∷ bs) ≡ false
-      → (c : Token) → Is (sign s.CloseRound) c → (rest : Tokens) → length ((w ++ (y ++ (v ++ (c ∷ [])))) ++ rest) < n → held_with n b t ((w ++ (y ++ (v ++ (c ∷ [])))) ++ rest) ≡ taken (held_exprs (a ∷ bs)) rest
+      → (c : Token) → Is (sign s.CloseRound) c → (rest : Tokens) → length ((t ∷ (w ++ (y ++ (v ++ (c ∷ []))))) ++ rest) < n → held_with n b t ((w ++ (y ++ (v ++ (c ∷ [])))) ++ rest) ≡ taken (held_exprs (a ∷ bs)) rest
   unfolding held_with
-  held_with_read t w y d a m it l bs v z h c ic rest =
-      yes (ap (λ (q : Tokens). comes (sign s.OpenRound) q) (append_assoc w (y ++ (v ++ (c ∷ []))) rest) ∙ with_opens t w d (with_word t w d m it) ((y ++ (v ++ (c ∷ []))) ++ rest)) _ _
-      (part (less (with_body_all t it)) m (y ++ (v ++ (c ∷ []))) rest _ tt (part (x.rest d t w it m) l (v ++ (c ∷ [])) rest _ (closed_over n b x s.CloseRound refl bs v z c ic rest) (held_from_read a bs v z h c ic rest)))
+  held_with_read t w y d a m it l bs v z h c ic rest lt =
+      let long : length (((t ∷ w) ++ y) ++ ((v ++ (c ∷ [])) ++ rest)) ≡ length ((t ∷ (w ++ (y ++ (v ++ (c ∷ []))))) ++ rest)
+          = ap (λ (q : Tokens). length (t ∷ q)) (sym (append_assoc (w ++ y) (v ++ (c ∷ [])) rest) ∙ ap (λ (q : Tokens). q ++ rest) (append_assoc w y (v ++ (c ∷ [])))) in
+      yes {N = length ((w ++ (y ++ (v ++ (c ∷ [])))) ++ rest) < n} (ap (λ (q : Tokens). comes (sign s.OpenRound) q) (append_assoc w (y ++ (v ++ (c ∷ []))) rest) ∙ with_opens t w d (with_word t w d m it) ((y ++ (v ++ (c ∷ []))) ++ rest)) _ _
+      (part (less (with_body_all t it)) m (y ++ (v ++ (c ∷ []))) rest _ tt
+      (λ short. ap (λ (q : Tokens). and_then (b.rest t.start d q) (held_from n b)) (append_assoc y (v ++ (c ∷ [])) rest)
+      ∙ ap (λ o. and_then o (held_from n b)) (x.rest d a t w y it m l ((v ++ (c ∷ [])) ++ rest) (closed_over n b x s.CloseRound refl bs v z c ic rest) (omega arith))
+      ∙ held_from_read a bs v z h c ic rest (let g : length ((y ++ (v ++ (c ∷ []))) ++ rest) ≡ length (y ++ ((v ++ (c ∷ [])) ++ rest)) = ap length (append_assoc y (v ++ (c ∷ [])) rest) in let k = length-append y ((v ++ (c ∷ [])) ++ rest) in omega arith))) (omega arith)
 
   module _ (a : Expr) (bs : List Expr) (v : Tokens) (z : CommasOf bs v) (h : alone (a ∷ bs) ≡ false) (c : Token) (ic : Is (sign s.CloseRound) c) (rest : Tokens) where
     abbrev Goal : Tokens → Type 0
@@ -172,7 +177,7 @@ module _ (n : ℕ) (b : Below) (x : Reading n b) where
     by_with_word : (t : Token) (w y : Tokens) (d : Expr) → BasicOf d (t ∷ w) → Is (reserved r.With) t → ExprOf a ((t ∷ w) ++ y) → Goal ((t ∷ w) ++ y)
     unfolding enclosed
     by_with_word t w y d m it l = subst (λ (q : Tokens). length ((t ∷ q) ++ rest) < n → enclosed n b ((t ∷ q) ++ rest) ≡ taken (held_exprs (a ∷ bs)) rest) (sym (append_assoc w y (v ++ (c ∷ []))))
-        (peeked (class_of by_expr content_class) (enclosed_by n b) (r_test r.With content_class it refl) (also it _ (held_with_read t w y d a m it l bs v z h c ic rest)))
+        (λ lt. peeked (class_of by_expr content_class) (enclosed_by n b) (r_test r.With content_class it refl) (also it _ (λ _. held_with_read t w y d a m it l bs v z h c ic rest lt)) lt)
 
     by_basic : (t : Token) (u : Tokens) → Is (reserved r.With) t → ExprOf a (t ∷ u) → (d : Expr) (w y : Tokens) → BasicOf d w → (t ∷ u) ≡ w ++ y → Goal (t ∷ u)
     by_basic t u it l d [] y m q = let g = solid_basic d [] m in absurd (omega arith)

@@ -37,8 +37,8 @@ pub record Reading (n : ℕ) (b : Below) : Type 0 where
   pub query : Read n (Over 22) QueryOf b.query
   pub with_more : (t : Token) → Is (reserved r.With) t → Read n (Over 22) (λ q v. QueryOf q (t ∷ v)) (b.more (with_read t))
   pub term_more : (a : Term) (p : ℕ) → Read n (Over 22) (TermMore a p) (b.more (term_read a p))
-  -- an expression that goes on behind one that begins with WITH
-  pub rest : (a : Expr) (t : Token) (u : Tokens) → Is (reserved r.With) t → BasicOf a (t ∷ u) → Read n (Over 10) (λ c v. ExprOf c ((t ∷ u) ++ v)) (b.rest t.start a)
+  -- an expression that goes on behind one that begins with WITH; with what was read, it is shorter than n
+  pub rest : (a c : Expr) (t : Token) (u v : Tokens) → Is (reserved r.With) t → BasicOf a (t ∷ u) → ExprOf c ((t ∷ u) ++ v) → (rest : Tokens) → Over 10 rest → length (((t ∷ u) ++ v) ++ rest) < n → b.rest t.start a (v ++ rest) ≡ taken c rest
 
 pub many_commas : (xs : List Expr) (v : Tokens) → CommasOf xs v → Many (AfterOf (sign s.Comma) ExprOf) xs v
 many_commas _ _ commas_none = many_none
