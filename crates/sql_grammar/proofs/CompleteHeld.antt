@@ -133,7 +133,7 @@ module _ (n : ℕ) (b : Below) (x : Reading n b) where
   with_body_by : (t : Token) (w : Tokens) (a : Expr) → WithIs t a w → (rest : Tokens) → length (w ++ rest) < suc n → with_body n b t.start (w ++ rest) ≡ taken a rest
   with_body_by t _ _ (with_is {o = o} {k = k} {c = c} {d = d} {bs = bs} {a = a} {u = u} {v = v} {y = y} io l z ik g ic) rest lt = with_body_read n b x t.start o k c d bs a u v y io l z ik g ic rest lt
 
-  with_body_all : (t : Token) → Is (reserved r.With) t → Read (suc n) Free (λ a w. BasicOf a (t ∷ w)) (with_body n b t.start)
+  pub with_body_all : (t : Token) → Is (reserved r.With) t → Read (suc n) Free (λ a w. BasicOf a (t ∷ w)) (with_body n b t.start)
   with_body_all t it = record { reads = λ {a = a} {u = w} l rest f lt. with_body_by t w a (with_word t w a l it) rest lt }
 
   -- ---- behind the expression with which they begin

@@ -30,3 +30,4 @@ pub mod CompleteBasics
 pub mod CompleteHeld
 pub mod CompletePostfix
 pub mod CompleteStars
+pub mod CompleteBehind
