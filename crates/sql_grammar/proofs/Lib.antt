@@ -31,3 +31,4 @@ pub mod CompleteHeld
 pub mod CompletePostfix
 pub mod CompleteStars
 pub mod CompleteBehind
+pub mod CompletePrimaries
