@@ -32,3 +32,4 @@ pub mod CompletePostfix
 pub mod CompleteStars
 pub mod CompleteBehind
 pub mod CompletePrimaries
+pub mod CompleteJoins
