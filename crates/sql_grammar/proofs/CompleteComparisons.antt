@@ -54,7 +54,7 @@ no_comparison_by (l.Reserved r.Not) h = absurd (omega arith)
 no_comparison_by (l.Reserved _) h = refl
 no_comparison_by _ h = refl
 
-no_comparison_next : (ts : Tokens) → Over 8 ts → class_of no_comparison comparison_class (next ts) ≡ no_comparison
+pub no_comparison_next : (ts : Tokens) → Over 8 ts → class_of no_comparison comparison_class (next ts) ≡ no_comparison
 no_comparison_next [] h = refl
 no_comparison_next (t ∷ ts) h = no_comparison_by t.lexeme h.over
 

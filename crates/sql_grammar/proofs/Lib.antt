@@ -33,3 +33,4 @@ pub mod CompleteStars
 pub mod CompleteBehind
 pub mod CompletePrimaries
 pub mod CompleteJoins
+pub mod CompleteNothing
