@@ -34,3 +34,4 @@ pub mod CompleteBehind
 pub mod CompletePrimaries
 pub mod CompleteJoins
 pub mod CompleteNothing
+pub mod CompleteGroups
