@@ -32,7 +32,8 @@ use Rattle.sql_grammar.specs.Exprs.{tells, told, Below, Held, held_query, held_e
 use Rattle.sql_grammar.specs.Queries.{gitem_after, gitem, comma_gitem, cube_behind, cube, group_set, comma_group_set, keys, keys_after, grouping_sets, keys_grouping, groups_by, grouped_by, group_by}
 use Rattle.sql_grammar.proofs.Marks.{told_is, tells_is, AfterOf, after_of}
 use Rattle.sql_grammar.proofs.Basics.{HeldOf, holds_query, holds_exprs}
-use Rattle.sql_grammar.proofs.Solid.{no_expr, solid_list}
+use Rattle.sql_grammar.proofs.Ways.{start_front}
+use Rattle.sql_grammar.proofs.Solid.{no_expr, solid_expr}
 use Rattle.sql_grammar.proofs.Follows.{Over, Starts, level, rank, is_sign}
 use Rattle.sql_grammar.proofs.CompleteSteps.{Read, Free, Not, less, under, tok, also, part, last, only, yes, no_, peeked, done, inside, weak, refute, over_r, over_s, over_not_r, r_test, s_test, w_test, starts_not_s, after_read, after_begins, over_many, comma_level, many_ahead, Ahead, nothing_ahead, r_ahead, to, on}
 use Rattle.sql_grammar.proofs.CompleteStarts.{expr_starts, list_starts, starts_s, starts_at}
@@ -241,3 +242,41 @@ module _ (n : ℕ) (b : Below) (x : Reading n b) where
         shorter : (u : Tokens) → length (u ++ (v ++ rest)) < n → length (v ++ rest) < suc n
         shorter [] h = omega arith
         shorter (k ∷ u) h = shorter u (omega arith)
+
+    keys_by : (t : Token) (u : Tokens) → ExprOf a (t ∷ u) → (k : GroupsStart) → groups_class t.lexeme ≡ k → length ((t ∷ u) ++ (v ++ rest)) < n → groups_by n b t.start k ((t ∷ u) ++ (v ++ rest)) ≡ taken (groups_kind.Keys (a ∷ bs) t.start) rest
+    keys_by t u l groups_bracket q lt = bracket_keys t u (record { is = groups_bracket_is t.lexeme q }) l (omega arith)
+    keys_by t u l groups_grouping q lt = grouping_keys t u (record { is = groups_grouping_is t.lexeme q }) l (omega arith)
+    keys_by t u l groups_by_cube q lt = absurd (groups_cube_not t.lexeme q (expr_starts a (t ∷ u) [] l).starts)
+    keys_by t u l groups_expr q lt = last x.inner l _ key_over (λ short. keys_read t.start a bs v z rest f (omega arith)) lt
+
+    keys_first : (u : Tokens) → ExprOf a u → length (u ++ (v ++ rest)) < n → grouped_by n b (u ++ (v ++ rest)) ≡ taken (groups_kind.Keys (a ∷ bs) (start_of u)) rest
+    unfolding grouped_by
+    keys_first [] l lt = absurd (no_expr a l)
+    keys_first (t ∷ u) l lt = peeked {N = Unit {0}} (class_of groups_expr groups_class) (groups_by n b t.start) {ts = (t ∷ u) ++ (v ++ rest)} refl (λ _. keys_by t u l (groups_class t.lexeme) refl lt) tt
+
+  grouped_read : Read n (Over 15) GroupsOf (grouped_by n b)
+  unfolding grouped_by grouping_sets same_sign
+  grouped_read = record { reads = by }
+    where
+      by : {a : Groups Expr} {u : Tokens} → GroupsOf a u → (rest : Tokens) → Over 15 rest → length (u ++ rest) < n → grouped_by n b (u ++ rest) ≡ taken a rest
+      by (groups_keys (list_is {a = a} {bs = bs} {u = u} {v = v} l z)) rest f = λ lt.
+          ap (grouped_by n b) (append_assoc u v rest) ∙ keys_first a bs v z rest f u l (let k : length ((u ++ v) ++ rest) ≡ length (u ++ (v ++ rest)) = ap length (append_assoc u v rest) in omega arith)
+          ∙ ap (λ (p : ℕ). taken (groups_kind.Keys (a ∷ bs) p) rest) (sym (start_front u v (solid_expr a u l)))
+      by (groups_empty {o = o} io ic) rest f = peeked (class_of groups_expr groups_class) (groups_by n b o.start) (s_test s.OpenRound groups_class io refl) (also io _ (yes ic.is _ _ (also ic _ done)))
+      by (groups_sets {t = t} {c = c} {a = a} {ms = ms} {u = u} {v = v} i j io l z ic) rest f = peeked (class_of groups_expr groups_class) (groups_by n b t.start) (r_test r.Grouping groups_class i refl)
+          (also i _ (yes j.is _ _ (also j _ (also io _ (part group_set_read l (v ++ (c ∷ [])) rest _
+          (on (c ∷ []) rest (many_ahead {j = 10} {k = 15} (sign s.Comma) comma_level (omega arith) (after_begins (sign s.Comma) GroupSetOf) ms v (many_sets ms v z)) (omega arith) (over_s s.CloseRound ic (omega arith)))
+          (part (less (over_many (sign s.Comma) comma_level (omega arith) (after_begins (sign s.Comma) GroupSetOf) comma_set_read (a ∷ []) many_sets)) (ms, z, refl) (c ∷ []) rest _ (over_s s.CloseRound ic (omega arith)) (also ic _ done)))))))
+      by (groups_cube {t = t} {a = a} {u = u} l) rest f = peeked (class_of groups_expr groups_class) (groups_by n b t.start) (cube_says a t u l) (last (less cube_read) l _ tt done)
+
+  pub group_by_read : Read (suc n) (Over 18) GroupByOf (group_by n b)
+  unfolding group_by
+  group_by_read = record { reads = by }
+    where
+      by : {a : Option (Groups Expr)} {u : Tokens} → GroupByOf a u → (rest : Tokens) → Over 18 rest → length (u ++ rest) < suc n → group_by n b (u ++ rest) ≡ taken a rest
+      by group_none rest f = no_ (over_not_r f r.Group (omega arith)) _ _ done
+      by (group_is i j l) rest f = yes i.is _ _ (tok i _ (also j _ (last grouped_read l _ (weak (omega arith) f) done)))
+
+pub group_by_ahead : (a : Option (Groups Expr)) (u : Tokens) → GroupByOf a u → Ahead 18 u
+group_by_ahead _ _ group_none = nothing_ahead
+group_by_ahead _ _ (group_is i j l) = r_ahead r.Group i
