@@ -50,6 +50,12 @@ module _ {A E : Type 0} (fits : Token → Bool) (item : Parser (Ended A E)) wher
     pub room : length rest ≤ turns
     pub is : from ≡ until fits item turns found rest
 
+  -- one item more
+  pub until_next : (m : ℕ) (found : List A) (ts : Tokens) → length ts ≤ m → comes fits ts ≡ true → (xs : List A) (rest : Tokens) → item ts ≡ taken (xs, None) rest → length rest < length ts
+      → Came (until fits item m found ts) (found ++ xs) rest
+  until_next zero found ts le h xs rest is lt = let g = came ts h in absurd (omega arith)
+  until_next (suc m) found ts le h xs rest is lt = record { turns = m; room = omega arith; is = until_one m found ts h xs rest is }
+
   module _ (F : Tokens → Type 0) (n : ℕ) (L : Language Token A) (over : (t : Token) (ts : Tokens) → fits t ≡ true → F (t ∷ ts))
       (begins : (a : A) (u rest : Tokens) → L a u → comes fits (u ++ rest) ≡ true) (x : Read (suc n) F (One L) item) where
     over_next : (ts : Tokens) → comes fits ts ≡ true → F ts

@@ -35,3 +35,4 @@ pub mod CompletePrimaries
 pub mod CompleteJoins
 pub mod CompleteNothing
 pub mod CompleteGroups
+pub mod CompleteItems
