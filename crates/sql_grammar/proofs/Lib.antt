@@ -36,3 +36,4 @@ pub mod CompleteJoins
 pub mod CompleteNothing
 pub mod CompleteGroups
 pub mod CompleteItems
+pub mod CompleteLists
