@@ -37,3 +37,4 @@ pub mod CompleteNothing
 pub mod CompleteGroups
 pub mod CompleteItems
 pub mod CompleteLists
+pub mod CompleteSelects
