@@ -38,3 +38,4 @@ pub mod CompleteGroups
 pub mod CompleteItems
 pub mod CompleteLists
 pub mod CompleteSelects
+pub mod CompleteSets
