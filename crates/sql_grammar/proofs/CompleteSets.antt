@@ -71,7 +71,7 @@ quantifier_not_open : (k : SetKind) (t : Token) → Is (reserved (set_quantifier
 quantifier_not_open k t i = r_test (set_quantifier k) (sign_lexeme s.OpenRound) i refl
 
 -- behind a term: the words of the next set operation, or what ends them
-sets_no_edit : (k : SetKind) (ms : List (SetTerm Term)) (v rest : Tokens) → SetTermsOf k ms v → Over 20 rest → NoEdit (v ++ rest)
+pub sets_no_edit : (k : SetKind) (ms : List (SetTerm Term)) (v rest : Tokens) → SetTermsOf k ms v → Over 20 rest → NoEdit (v ++ rest)
 sets_no_edit k _ _ rest set_terms_none f = record { no_edit = λ e left q i. absurd (let g : true ≡ false = sym i.is ∙ ap (comes (reserved r.Except)) (sym q) ∙ over_not_r f r.Except (omega arith) in cc) }
 sets_no_edit k _ _ rest (set_terms_more {t = t} {x = x} {u = u} {v = v} i j l z) f = record {
   no_edit = λ e left q g. let is : (x ∷ (u ++ v)) ++ rest ≡ left = cc in ap (comes (sign s.OpenRound)) (sym is) ∙ quantifier_not_open k x j;

@@ -39,3 +39,4 @@ pub mod CompleteItems
 pub mod CompleteLists
 pub mod CompleteSelects
 pub mod CompleteSets
+pub mod CompleteQueries
