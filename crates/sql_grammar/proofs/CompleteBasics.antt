@@ -26,7 +26,7 @@ use Rattle.sql_grammar.proofs.Marks.{AfterOf, after_of}
 use Rattle.sql_grammar.proofs.Words.{ClosedOf, closed_fields}
 use Rattle.sql_grammar.proofs.Calls.{Bracketed, bracketed_is, Placed, placed_is, Closed, closed_is}
 use Rattle.sql_grammar.proofs.Follows.{Over, Starts}
-use Rattle.sql_grammar.proofs.CompleteSteps.{Read, Free, Not, Comes, less, under, tok, also, part, last, only, yes, no_, done, inside, weak, over_r, over_s, over_not_r, starts_not_r, starts_not_s, r_test, s_test, after_read, after_begins, over_many, many_read, comma_level, many_ahead, Ahead, nothing_ahead, r_ahead, to, on, comes_r_over, comes_r_not}
+use Rattle.sql_grammar.proofs.CompleteSteps.{Read, Free, Not, Comes, less, under, tok, also, part, last, only, then_on, else_on, done, inside, weak, over_r, over_s, over_not_r, starts_not_r, starts_not_s, r_test, s_test, after_read, after_begins, over_many, many_read, comma_level, many_ahead, Ahead, nothing_ahead, r_ahead, to, on, comes_r_over, comes_r_not}
 use Rattle.sql_grammar.proofs.CompleteStarts.{expr_starts, list_starts}
 use Rattle.sql_grammar.proofs.CompleteRepeats.{One, one, GoneTo, gone_to, until_to_read}
 use Rattle.sql_grammar.proofs.CompleteTypes.{whole_type_read, struct_fields_read}
@@ -96,16 +96,16 @@ module _ (n : ℕ) (b : Below) (x : Reading n b) where
   subject_read = record { reads = by }
     where
       by : {a : Option Expr} {u : Tokens} → SubjectOf a u → (rest : Tokens) → Comes (reserved r.When) rest → length (u ++ rest) < n → subject n b (u ++ rest) ≡ taken a rest
-      by subject_none rest f = yes f.is _ _ done
-      by (subject_is {a = a} {u = u} l) rest f = no_ (starts_not_r (expr_starts a u rest l) r.When (omega arith)) _ _ (last x.inner l _ (comes_r_over rest r.When f (omega arith)) done)
+      by subject_none rest f = then_on f.is _ _ done
+      by (subject_is {a = a} {u = u} l) rest f = else_on (starts_not_r (expr_starts a u rest l) r.When (omega arith)) _ _ (last x.inner l _ (comes_r_over rest r.When f (omega arith)) done)
 
   otherwise_read : Read (suc n) (Comes (reserved r.End)) ElseOf (otherwise n b)
   unfolding otherwise same_reserved
   otherwise_read = record { reads = by }
     where
       by : {a : Option Expr} {u : Tokens} → ElseOf a u → (rest : Tokens) → Comes (reserved r.End) rest → length (u ++ rest) < suc n → otherwise n b (u ++ rest) ≡ taken a rest
-      by else_none rest f = no_ (comes_r_not rest r.End r.Else f refl) _ _ done
-      by (else_is i l) rest f = yes i.is _ _ (last (after_read_by n b x r.Else) (after_of i l) _ (comes_r_over rest r.End f (omega arith)) done)
+      by else_none rest f = else_on (comes_r_not rest r.End r.Else f refl) _ _ done
+      by (else_is i l) rest f = then_on i.is _ _ (last (after_read_by n b x r.Else) (after_of i l) _ (comes_r_over rest r.End f (omega arith)) done)
 
   whens_read : (found : List (When Expr)) → Read (suc n) WhenEnds (Found WhensOf found) (many (reserved r.When) (when n b) n found)
   whens_read found = many_read WhenEnds (Over 10) n WhenOf (reserved r.When) (when n b) (λ ts h. h.no_when) (λ t ts h. over_r {t = t} r.When (record { is = h }) (omega arith)) (λ ts h. h.over) when_begins when_read found many_whens
@@ -147,23 +147,23 @@ module _ (n : ℕ) (b : Below) (x : Reading n b) where
   pub array_from_read : (element : Option TypeSpelling) (from : Option ℕ) (ms : List Expr) (d : Token) (u : Tokens) → ArrayItemsOf ms d u → (rest : Tokens) → length (u ++ rest) < suc n
       → array_from n b element from (u ++ rest) ≡ taken (e.Array element ms d.start (elim from [ None ↦ d.start | Some p ↦ p ])) rest
   unfolding array_from
-  array_from_read element from _ d _ (array_empty i j) rest = tok i _ (inside (yes j.is _ _ (also j _ done)) _ done)
+  array_from_read element from _ d _ (array_empty i j) rest = tok i _ (inside (then_on j.is _ _ (also j _ done)) _ done)
   array_from_read element from ms d _ (array_items {c = c} {u = u} i l j) rest = tok i _ (inside
-      (no_ (ap (λ (w : Tokens). comes (sign s.CloseSquare) w) (append_assoc u (c ∷ []) rest) ∙ starts_not_s (list_starts ms u (c ∷ rest) l) s.CloseSquare (omega arith)) _ _ (only (all_closed_read n b x s.CloseSquare refl) (closed_is l j) tt)) _ done)
+      (else_on (ap (λ (w : Tokens). comes (sign s.CloseSquare) w) (append_assoc u (c ∷ []) rest) ∙ starts_not_s (list_starts ms u (c ∷ rest) l) s.CloseSquare (omega arith)) _ _ (only (all_closed_read n b x s.CloseSquare refl) (closed_is l j) tt)) _ done)
 
   pub array_query_read : (t o c : Token) (q : _) (u : Tokens) → Is (reserved r.Array) t → Is (sign s.OpenRound) o → QueryOf q u → Is (sign s.CloseRound) c
       → (rest : Tokens) → length ((t ∷ o ∷ (u ++ (c ∷ []))) ++ rest) < suc n → array n b ((t ∷ o ∷ (u ++ (c ∷ []))) ++ rest) ≡ taken (e.ArrayQuery q o.start t.start) rest
   unfolding array
-  array_query_read t o c q u it io l ic rest = tok it _ (yes io.is _ _ (last (less (bracketed_query_read n b x)) (placed_is io l ic) _ tt done))
+  array_query_read t o c q u it io l ic rest = tok it _ (then_on io.is _ _ (last (less (bracketed_query_read n b x)) (placed_is io l ic) _ tt done))
 
   pub array_word_read : (t d : Token) (ms : List Expr) (u : Tokens) → Is (reserved r.Array) t → ArrayItemsOf ms d u → (rest : Tokens) → length ((t ∷ u) ++ rest) < suc n → array n b ((t ∷ u) ++ rest) ≡ taken (e.Array None ms d.start t.start) rest
   unfolding array
-  array_word_read t d ms u it l rest = let g = items_open ms d u rest l in tok it _ (no_ g.0 _ _ (no_ g.1 _ _ (λ lt. array_from_read None (Some t.start) ms d u l rest (omega arith))))
+  array_word_read t d ms u it l rest = let g = items_open ms d u rest l in tok it _ (else_on g.0 _ _ (else_on g.1 _ _ (λ lt. array_from_read None (Some t.start) ms d u l rest (omega arith))))
 
   pub array_typed_read : (t o c d : Token) (y : TypeSpelling) (ms : List Expr) (u v : Tokens) → Is (reserved r.Array) t → Is (sign s.Less) o → TypeOf type_levels y v → Is (sign s.Greater) c → ArrayItemsOf ms d u
       → (rest : Tokens) → length ((t ∷ o ∷ (v ++ (c ∷ u))) ++ rest) < suc n → array n b ((t ∷ o ∷ (v ++ (c ∷ u))) ++ rest) ≡ taken (e.Array (Some y) ms d.start t.start) rest
   unfolding array same_sign
-  array_typed_read t o c d y ms u v it io ly ic l rest = tok it _ (no_ (s_test s.Less (sign_lexeme s.OpenRound) io refl) _ _ (yes io.is _ _ (also io _ (part (less (whole_type_read n)) ly (c ∷ u) rest _ tt
+  array_typed_read t o c d y ms u v it io ly ic l rest = tok it _ (else_on (s_test s.Less (sign_lexeme s.OpenRound) io refl) _ _ (then_on io.is _ _ (also io _ (part (less (whole_type_read n)) ly (c ∷ u) rest _ tt
       (also ic _ (λ lt. array_from_read (Some y) (Some t.start) ms d u l rest (omega arith)))))))
 
   -- ---- STRUCT
@@ -173,8 +173,8 @@ module _ (n : ℕ) (b : Below) (x : Reading n b) where
   member_read = record { reads = by }
     where
       by : {a : Aliased Expr} {u : Tokens} → MemberOf a u → (rest : Tokens) → Over 11 rest → length (u ++ rest) < n → member n b (u ++ rest) ≡ taken a rest
-      by (member_plain l) rest f = last x.inner l _ (weak (omega arith) f) (no_ (over_not_r f r.As (omega arith)) _ _ done)
-      by (member_as {t = t} {n = k} l i j) rest f = part x.inner l (t ∷ k ∷ []) rest _ (over_r r.As i (omega arith)) (yes i.is _ _ (also i _ (also j _ done)))
+      by (member_plain l) rest f = last x.inner l _ (weak (omega arith) f) (else_on (over_not_r f r.As (omega arith)) _ _ done)
+      by (member_as {t = t} {n = k} l i j) rest f = part x.inner l (t ∷ k ∷ []) rest _ (over_r r.As i (omega arith)) (then_on i.is _ _ (also i _ (also j _ done)))
 
   comma_member_read : Read (suc n) (Over 11) (AfterOf (sign s.Comma) MemberOf) (comma_member n b)
   unfolding comma_member
@@ -183,7 +183,7 @@ module _ (n : ℕ) (b : Below) (x : Reading n b) where
   pub struct_read : (t o c : Token) (a : Aliased Expr) (ms : List (Aliased Expr)) (u v : Tokens) → Is (reserved r.Struct) t → Is (sign s.OpenRound) o → MemberOf a u → MembersOf ms v → Is (sign s.CloseRound) c
       → (rest : Tokens) → length ((t ∷ o ∷ (u ++ (v ++ (c ∷ [])))) ++ rest) < suc n → struct n b ((t ∷ o ∷ (u ++ (v ++ (c ∷ [])))) ++ rest) ≡ taken (e.Struct (a ∷ ms) t.start) rest
   unfolding struct same_sign
-  struct_read t o c a ms u v it io l z ic rest = tok it _ (no_ (s_test s.OpenRound (sign_lexeme s.Less) io refl) _ _ (also io _ (part member_read l (v ++ (c ∷ [])) rest _
+  struct_read t o c a ms u v it io l z ic rest = tok it _ (else_on (s_test s.OpenRound (sign_lexeme s.Less) io refl) _ _ (also io _ (part member_read l (v ++ (c ∷ [])) rest _
       (on (c ∷ []) rest (many_ahead {j = 11} {k = 15} (sign s.Comma) comma_level (omega arith) (after_begins (sign s.Comma) MemberOf) ms v (many_members ms v z)) (omega arith) (over_s s.CloseRound ic (omega arith)))
       (part (less (over_many (sign s.Comma) comma_level (omega arith) (after_begins (sign s.Comma) MemberOf) comma_member_read (a ∷ []) many_members)) (ms, z, refl) (c ∷ []) rest _ (over_s s.CloseRound ic (omega arith)) (also ic _ done)))))
 
@@ -194,7 +194,7 @@ module _ (n : ℕ) (b : Below) (x : Reading n b) where
   typed_struct_read t k g o c fs _ u _ it ik lf ig io (list_is {a = a} {bs = bs} {u = v} {v = w} l z) ic rest =
       subst (λ (q : Tokens). length ((t ∷ k ∷ q) ++ rest) < suc n → struct n b ((t ∷ k ∷ q) ++ rest) ≡ taken (e.TypedStruct fs (a ∷ bs) o.start t.start) rest)
       (append_assoc u (g ∷ []) (o ∷ (v ++ (w ++ (c ∷ [])))) ∙ ap (λ (q : Tokens). u ++ (g ∷ o ∷ q)) (sym (append_assoc v w (c ∷ []))))
-      (tok it _ (yes ik.is _ _ (also ik _ (part (struct_fields_read n levels_below) (closed_fields lf ig) (o ∷ (v ++ (w ++ (c ∷ [])))) rest _ tt
+      (tok it _ (then_on ik.is _ _ (also ik _ (part (struct_fields_read n levels_below) (closed_fields lf ig) (o ∷ (v ++ (w ++ (c ∷ [])))) rest _ tt
       (also io _ (part x.inner l (w ++ (c ∷ [])) rest _ (closed_over n b x s.CloseRound refl bs w z c ic rest) (last (less (list_closed_read n b x s.CloseRound refl (a ∷ []))) (commas_closed z ic) _ tt done)))))))
 
   -- ---- WITH
@@ -221,7 +221,7 @@ module _ (n : ℕ) (b : Below) (x : Reading n b) where
     where
       by : {a : Ended (Binding Expr) Expr} {u : Tokens} → One (AfterOf (sign s.Comma) BindingOf) a u → (rest : Tokens) → Over 10 rest → length (u ++ rest) < suc n → with_item n b (u ++ rest) ≡ taken a rest
       by (one (after_of ic (binding_is {n = k} {t = t} {a = a} {u = u} i j l))) rest f = tok ic _ (last (noting_read x.inner) (refl, basic_expr _ (k ∷ []) (basic_name i)) _ (over_r r.As j (omega arith))
-          (λ lt. ap (λ o. after_name (e.Name (spelled k) k.start) o ((t ∷ u) ++ rest)) (ap (λ c. elim c [ true ↦ Some k | false ↦ None ]) i.is) ∙ yes j.is _ _ (inside (bound_by k t a u j l rest f) _ done) (omega arith)))
+          (λ lt. ap (λ o. after_name (e.Name (spelled k) k.start) o ((t ∷ u) ++ rest)) (ap (λ c. elim c [ true ↦ Some k | false ↦ None ]) i.is) ∙ then_on j.is _ _ (inside (bound_by k t a u j l rest f) _ done) (omega arith)))
 
   -- the result of a WITH expression
   data WithFinal : List (Binding Expr) → Expr → Tokens → Type 0 where
@@ -232,7 +232,7 @@ module _ (n : ℕ) (b : Below) (x : Reading n b) where
 
   no_name : (a : Expr) (o : Option Token) (ts : Tokens) → comes (reserved r.As) ts ≡ false → after_name a o ts ≡ taken ([], Some a) ts
   no_name a None ts h = refl
-  no_name a (Some k) ts h = no_ {N = Unit {0}} h _ _ done tt
+  no_name a (Some k) ts h = else_on {N = Unit {0}} h _ _ done tt
 
   final_ends : (xs : List (Binding Expr)) (a : Expr) (u : Tokens) → WithFinal xs a u → (rest : Tokens) → Over 11 rest → length (u ++ rest) < suc n → with_item n b (u ++ rest) ≡ taken (xs, Some a) rest
   unfolding with_item

@@ -33,10 +33,10 @@ use Rattle.sql_grammar.specs.Exprs.{tells, told, Below, variables_of, two_named,
 use Rattle.sql_grammar.proofs.Marks.{told_is, tells_is, AfterOf, after_of}
 use Rattle.sql_grammar.proofs.Solid.{solid_expr}
 use Rattle.sql_grammar.proofs.Follows.{Over, Starts, level, level_of, rank}
-use Rattle.sql_grammar.proofs.CompleteSteps.{Read, Free, Not, less, under, tok, also, part, last, only, yes, no_, peeked, done, weak, over_r, over_s, over_n, over_not_r, over_not_s, starts_not_r, r_test, s_test, n_test, after_read, after_begins, over_many, many_read, comma_level, many_ahead, Ahead, nothing_ahead, r_ahead, to, on}
+use Rattle.sql_grammar.proofs.CompleteSteps.{Read, Free, Not, less, under, tok, also, part, last, only, then_on, else_on, peeked, done, weak, over_r, over_s, over_n, over_not_r, over_not_s, starts_not_r, r_test, s_test, n_test, after_read, after_begins, over_many, many_read, comma_level, many_ahead, Ahead, nothing_ahead, r_ahead, to, on}
 use Rattle.sql_grammar.proofs.CompleteStarts.{expr_starts, starts_s, starts_n}
 use Rattle.sql_grammar.proofs.CompleteRepeats.{begun}
-use Rattle.sql_grammar.proofs.CompleteWords.{direction_read, direction_ahead, nulls_place_read, nulls_place_ahead, distinct_read, nulls_part_read, nulls_part_ahead, call_limit_read, call_limit_ahead}
+use Rattle.sql_grammar.proofs.CompleteWords.{direction_read, direction_ahead, nulls_place_read, nulls_place_ahead, distinct_read, nulls_part_read, call_limit_read, call_limit_ahead}
 use Rattle.sql_grammar.proofs.CompleteFronts.{basic_expr}
 use Rattle.sql_grammar.proofs.CompleteParts.{Reading}
 
@@ -75,8 +75,8 @@ module _ (n : ℕ) (b : Below) (x : Reading n b) where
   order_read = record { reads = by }
     where
       by : {a : List (Sort Expr)} {u : Tokens} → OrderOf a u → (rest : Tokens) → Over 21 rest → length (u ++ rest) < suc n → order n b (u ++ rest) ≡ taken a rest
-      by order_none rest f = no_ (over_not_r f r.Order (omega arith)) _ _ done
-      by (order_is {a = a} {ms = ms} {u = u} {v = v} i j l z) rest f = yes i.is _ _ (tok i _ (also j _ (part sort_read l v rest _
+      by order_none rest f = else_on (over_not_r f r.Order (omega arith)) _ _ done
+      by (order_is {a = a} {ms = ms} {u = u} {v = v} i j l z) rest f = then_on i.is _ _ (tok i _ (also j _ (part sort_read l v rest _
           (to (many_ahead {j = 14} {k = 15} (sign s.Comma) comma_level (omega arith) (after_begins (sign s.Comma) SortOf) ms v (many_sorts ms v z)) (omega arith) (weak (omega arith) f))
           (only (less (over_many (sign s.Comma) comma_level (omega arith) (after_begins (sign s.Comma) SortOf) comma_sort_read (a ∷ []) many_sorts)) (ms, z, refl) (weak (omega arith) f)))))
 
@@ -175,11 +175,11 @@ module _ (n : ℕ) (b : Below) (x : Reading n b) where
   lambda_after : (u : Tokens) (ns : List Name) (a c : Expr) (t : Token) (v : Tokens) → variables_of u ≡ Some ns → Is (sign s.Arrow) t → ExprOf c v → (rest : Tokens) → Over 10 rest → length ((t ∷ v) ++ rest) < n
       → arg_after n b u a ((t ∷ v) ++ rest) ≡ taken (arg.Lambda ns c (start_of u)) rest
   unfolding arg_after
-  lambda_after u ns a c t v h i l rest f lt = ap (λ o. chosen u a o ((t ∷ v) ++ rest)) h ∙ yes i.is _ _ (also i _ (last x.inner l _ f done)) lt
+  lambda_after u ns a c t v h i l rest f lt = ap (λ o. chosen u a o ((t ∷ v) ++ rest)) h ∙ then_on i.is _ _ (also i _ (last x.inner l _ f done)) lt
 
   plain_by : (u : Tokens) (a : Expr) (ts : Tokens) → comes (sign s.Arrow) ts ≡ false → (o : Option (List Name)) → chosen u a o ts ≡ taken (arg.Expr a) ts
   plain_by u a ts h None = refl
-  plain_by u a ts h (Some ns) = no_ {N = Unit {0}} h _ _ done tt
+  plain_by u a ts h (Some ns) = else_on {N = Unit {0}} h _ _ done tt
 
   plain_after : (u : Tokens) (a : Expr) (ts : Tokens) → comes (sign s.Arrow) ts ≡ false → arg_after n b u a ts ≡ taken (arg.Expr a) ts
   unfolding arg_after
@@ -187,14 +187,14 @@ module _ (n : ℕ) (b : Below) (x : Reading n b) where
 
   argument_by : {a : Arg Expr} {u : Tokens} → ArgOf a u → (rest : Tokens) → ArgEnds rest → length (u ++ rest) < n → argument n b (u ++ rest) ≡ taken a rest
   unfolding argument interval
-  argument_by (arg_expr {a = a} {u = u} l) rest f = no_ (starts_not_r (expr_starts a u rest l) r.Interval (omega arith)) _ _ (last (noting_read x.inner) (refl, l) _ f.over (λ _. plain_after u a rest f.no_arrow))
-  argument_by (arg_lambda {n = k} {t = t} {a = a} {u = u} i j l) rest f = no_ (n_test (reserved_lexeme r.Interval) i (λ n o. refl)) _ _
+  argument_by (arg_expr {a = a} {u = u} l) rest f = else_on (starts_not_r (expr_starts a u rest l) r.Interval (omega arith)) _ _ (last (noting_read x.inner) (refl, l) _ f.over (λ _. plain_after u a rest f.no_arrow))
+  argument_by (arg_lambda {n = k} {t = t} {a = a} {u = u} i j l) rest f = else_on (n_test (reserved_lexeme r.Interval) i (λ n o. refl)) _ _
       (last (noting_read x.inner) (refl, basic_expr _ (k ∷ []) (basic_name i)) _ (over_s s.Arrow j (omega arith))
       (lambda_after (k ∷ []) (name_at k ∷ []) _ a t u (ap (λ c. elim c [ true ↦ Some (name_at k ∷ []) | false ↦ None ]) i.is) j l rest f.over))
-  argument_by (arg_lambda_two {o = o} {n = k} {k = y} {m = m} {c = c} {t = t} {a = a} {u = u} io i iy im ic j l) rest f = no_ (s_test s.OpenRound (reserved_lexeme r.Interval) io refl) _ _
+  argument_by (arg_lambda_two {o = o} {n = k} {k = y} {m = m} {c = c} {t = t} {a = a} {u = u} io i iy im ic j l) rest f = else_on (s_test s.OpenRound (reserved_lexeme r.Interval) io refl) _ _
       (last (noting_read x.inner) (refl, tuple_expr io i iy im ic) _ (over_s s.Arrow j (omega arith))
       (lambda_after (o ∷ k ∷ y ∷ m ∷ c ∷ []) (name_at k ∷ name_at m ∷ []) _ a t u (ap (λ c. elim c [ true ↦ Some (name_at k ∷ name_at m ∷ []) | false ↦ None ]) (two_named_is io i iy im ic)) j l rest f.over))
-  argument_by (arg_interval {n = k} i l j) rest f = yes i.is _ _ (also i _ (part x.inner l (k ∷ []) rest _ (over_n j (omega arith)) (also j _ done)))
+  argument_by (arg_interval {n = k} i l j) rest f = then_on i.is _ _ (also i _ (part x.inner l (k ∷ []) rest _ (over_n j (omega arith)) (also j _ done)))
 
   pub argument_read : Read n ArgEnds ArgOf (argument n b)
   argument_read = record { reads = argument_by }

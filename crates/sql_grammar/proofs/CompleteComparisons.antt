@@ -29,7 +29,7 @@ use Rattle.sql_grammar.proofs.Calls.{Bracketed, bracketed_is}
 use Rattle.sql_grammar.proofs.Basics.{HeldOf, holds_query, holds_exprs}
 use Rattle.sql_grammar.proofs.Solid.{solid_bor}
 use Rattle.sql_grammar.proofs.Follows.{Over, Starts, level, rank}
-use Rattle.sql_grammar.proofs.CompleteSteps.{Read, Free, Not, less, tok, also, part, last, only, yes, no_, peeked, done, weak, over_r, r_test, s_test, starts_not_s, after_read}
+use Rattle.sql_grammar.proofs.CompleteSteps.{Read, Free, Not, less, tok, also, part, last, only, then_on, else_on, peeked, done, weak, over_r, r_test, s_test, starts_not_s, after_read}
 use Rattle.sql_grammar.proofs.CompleteStarts.{bor_starts}
 use Rattle.sql_grammar.proofs.CompleteRepeats.{begun, begun_only}
 use Rattle.sql_grammar.proofs.CompleteChains.{Pends, plain_of, ends_in}
@@ -119,7 +119,7 @@ module _ (n : ℕ) (b : Below) (x : Reading n b) (bp : Pends (suc n) 7 BorOf (bo
       → length ((u ++ (y ++ v)) ++ rest) < suc n → comparison n b ((u ++ (y ++ v)) ++ rest) ≡ taken (e.Like a k p c (start_of u)) rest
   unfolding like_after like_bor not_after
   like_read a c _ _ u _ v l (not_negated {t = t} i) m rest f = cmp a u l (t ∷ v) rest (over_r r.Like i (omega arith)) by_like (r_test r.Like comparison_class i refl)
-      (tok i _ (no_ (no_quantifier (v ++ rest) (bor_starts c v rest m)) _ _ (last (less bo) m _ (weak (omega arith) f) done)))
+      (tok i _ (else_on (no_quantifier (v ++ rest) (bor_starts c v rest m)) _ _ (last (less bo) m _ (weak (omega arith) f) done)))
   like_read a c _ _ u _ v l (is_negated {n = k} {t = t} i j) m rest f = cmp a u l (k ∷ t ∷ v) rest (over_r r.Not i (omega arith)) by_not (r_test r.Not comparison_class i refl)
       (tok i _ (peeked (class_of no_comparison comparison_class) (negated_by n b (start_of u) a k.start) (r_test r.Like comparison_class j refl) (also j _ (last (less bo) m _ (weak (omega arith) f) done))))
 
@@ -144,8 +144,8 @@ module _ (n : ℕ) (b : Below) (x : Reading n b) (bp : Pends (suc n) 7 BorOf (bo
   is_read : {o : Outcome Token Expr} (a : Expr) (k : Bool) (p : ℕ) (u y w rest : Tokens) → BorOf a u → IsNotOf k p y → comes (reserved r.Not) (w ++ rest) ≡ false
       → (length (w ++ rest) < n → is_test n b (start_of u) a k p (w ++ rest) ≡ o) → length ((u ++ (y ++ w)) ++ rest) < suc n → comparison n b ((u ++ (y ++ w)) ++ rest) ≡ o
   unfolding is_after
-  is_read a _ _ u _ w rest l (is_plain {t = t} i) g h = cmp a u l (t ∷ w) rest (over_r r.Is i (omega arith)) by_is (r_test r.Is comparison_class i refl) (tok i _ (no_ g _ _ h))
-  is_read a _ _ u _ w rest l (is_not {t = t} {n = k} i j) g h = cmp a u l (t ∷ k ∷ w) rest (over_r r.Is i (omega arith)) by_is (r_test r.Is comparison_class i refl) (tok i _ (yes j.is _ _ (also j _ h)))
+  is_read a _ _ u _ w rest l (is_plain {t = t} i) g h = cmp a u l (t ∷ w) rest (over_r r.Is i (omega arith)) by_is (r_test r.Is comparison_class i refl) (tok i _ (else_on g _ _ h))
+  is_read a _ _ u _ w rest l (is_not {t = t} {n = k} i j) g h = cmp a u l (t ∷ k ∷ w) rest (over_r r.Is i (omega arith)) by_is (r_test r.Is comparison_class i refl) (tok i _ (then_on j.is _ _ (also j _ h)))
 
   comp_by : {a : Expr} {u : Tokens} → CompOf a u → (rest : Tokens) → Over 8 rest → length (u ++ rest) < suc n → comparison n b (u ++ rest) ≡ taken a rest
   unfolding comparison like_after quantified in_after is_test same_reserved
@@ -155,24 +155,24 @@ module _ (n : ℕ) (b : Below) (x : Reading n b) (bp : Pends (suc n) 7 BorOf (bo
   comp_by (comp_like {a = a} {b = d} {n = k} {p = p} {u = u} {x = y} {v = v} l i m) rest f = like_read a d k p u y v l i m rest f
   comp_by (comp_like_list {a = a} {q = q} {bs = bs} {t = t} {x = y} {o = o} {c = c} {u = u} {v = v} l i j io m ic) rest f =
       cmp a u l (t ∷ y ∷ o ∷ (v ++ (c ∷ []))) rest (over_r r.Like i (omega arith)) by_like (r_test r.Like comparison_class i refl)
-      (tok i _ (yes (tells_is quantifier.Any quantifier_of y q j) _ _ (also (record { is = tells_is quantifier.Any quantifier_of y q j }) _ (no_ (s_test s.OpenRound (reserved_lexeme r.Unnest) io refl) _ _
+      (tok i _ (then_on (tells_is quantifier.Any quantifier_of y q j) _ _ (also (record { is = tells_is quantifier.Any quantifier_of y q j }) _ (else_on (s_test s.OpenRound (reserved_lexeme r.Unnest) io refl) _ _
       (last (less (list_read n b x)) (bracketed_is io m ic) _ tt (λ _. ap (λ (z : Quantifier). taken (e.LikeList a z t.start bs (start_of u)) rest) (told_is quantifier.Any quantifier_of y q j)))))))
   comp_by (comp_like_unnest {a = a} {b = d} {q = q} {t = t} {x = y} {y = z} {o = o} {c = c} {u = u} {v = v} l i j h io m ic) rest f =
       cmp a u l (t ∷ y ∷ z ∷ o ∷ (v ++ (c ∷ []))) rest (over_r r.Like i (omega arith)) by_like (r_test r.Like comparison_class i refl)
-      (tok i _ (yes (tells_is quantifier.Any quantifier_of y q j) _ _ (also (record { is = tells_is quantifier.Any quantifier_of y q j }) _ (yes h.is _ _
+      (tok i _ (then_on (tells_is quantifier.Any quantifier_of y q j) _ _ (also (record { is = tells_is quantifier.Any quantifier_of y q j }) _ (then_on h.is _ _
       (last (less unnested_read) (after_of h (bracketed_is io m ic)) _ tt (λ _. ap (λ (z : Quantifier). taken (e.LikeUnnest a z t.start d (start_of u)) rest) (told_is quantifier.Any quantifier_of y q j)))))))
   comp_by (comp_between {a = a} {b = c} {d = d} {n = k} {p = p} {t = t} {u = u} {x = y} {v = v} {y = z} l i m j h) rest f = between_read a c d k p t u y v z l i m j h rest f
   comp_by (comp_in_list {a = a} {bs = bs} {n = k} {p = p} {o = o} {c = c} {u = u} {x = y} {v = v} l i io m h ic) rest f =
-      in_read a k p u y (o ∷ (v ++ (c ∷ []))) rest l i (no_ (s_test s.OpenRound (reserved_lexeme r.Unnest) io refl) _ _ (also io _ (last held (holds_exprs m h ic) _ tt done)))
+      in_read a k p u y (o ∷ (v ++ (c ∷ []))) rest l i (else_on (s_test s.OpenRound (reserved_lexeme r.Unnest) io refl) _ _ (also io _ (last held (holds_exprs m h ic) _ tt done)))
   comp_by (comp_in_query {a = a} {q = q} {n = k} {p = p} {o = o} {c = c} {u = u} {x = y} {v = v} l i io m ic) rest f =
-      in_read a k p u y (o ∷ (v ++ (c ∷ []))) rest l i (no_ (s_test s.OpenRound (reserved_lexeme r.Unnest) io refl) _ _ (also io _ (last held (holds_query m ic) _ tt done)))
+      in_read a k p u y (o ∷ (v ++ (c ∷ []))) rest l i (else_on (s_test s.OpenRound (reserved_lexeme r.Unnest) io refl) _ _ (also io _ (last held (holds_query m ic) _ tt done)))
   comp_by (comp_in_unnest {a = a} {b = d} {n = k} {p = p} {y = z} {o = o} {c = c} {u = u} {x = y} {v = v} l i h io m ic) rest f =
-      in_read a k p u y (z ∷ o ∷ (v ++ (c ∷ []))) rest l i (yes h.is _ _ (last (less unnested_read) (after_of h (bracketed_is io m ic)) _ tt done))
+      in_read a k p u y (z ∷ o ∷ (v ++ (c ∷ []))) rest l i (then_on h.is _ _ (last (less unnested_read) (after_of h (bracketed_is io m ic)) _ tt done))
   comp_by (comp_is {a = a} {n = k} {p = p} {i = q} {t = t} {u = u} {x = y} l i j) rest f =
       let g = test_not q t.lexeme j.is in
-      is_read a k p u y (t ∷ []) rest l i g.0 (no_ g.1 _ _ (also (record { is = tells_is test.Null test_of t q j }) _ (λ _. ap (λ (z : IsTest). taken (e.Is a k z p (start_of u)) rest) (told_is test.Null test_of t q j))))
+      is_read a k p u y (t ∷ []) rest l i g.0 (else_on g.1 _ _ (also (record { is = tells_is test.Null test_of t q j }) _ (λ _. ap (λ (z : IsTest). taken (e.Is a k z p (start_of u)) rest) (told_is test.Null test_of t q j))))
   comp_by (comp_distinct {a = a} {b = d} {n = k} {p = p} {t = t} {y = z} {u = u} {x = y} {v = v} l i j h m) rest f =
-      is_read a k p u y (t ∷ z ∷ v) rest l i (r_test r.Distinct (reserved_lexeme r.Not) j refl) (yes j.is _ _ (also j _ (also h _ (last (less bo) m _ (weak (omega arith) f) done))))
+      is_read a k p u y (t ∷ z ∷ v) rest l i (r_test r.Distinct (reserved_lexeme r.Not) j refl) (then_on j.is _ _ (also j _ (also h _ (last (less bo) m _ (weak (omega arith) f) done))))
 
   pub comparison_read : Read (suc n) (Over 8) CompOf (comparison n b)
   comparison_read = record { reads = comp_by }

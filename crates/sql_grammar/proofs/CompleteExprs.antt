@@ -21,7 +21,7 @@ use Rattle.sql_grammar.specs.Exprs.{tells, Below, Pending, not_place, prefix, po
 use Rattle.sql_grammar.proofs.Levels.{LinkOf, link_of}
 use Rattle.sql_grammar.proofs.Solid.{solid_neg, solid_conj}
 use Rattle.sql_grammar.proofs.Follows.{Over, Starts}
-use Rattle.sql_grammar.proofs.CompleteSteps.{Read, Free, Not, less, tok, part, last, no_, done, free_many, starts_not_r, starts_weak}
+use Rattle.sql_grammar.proofs.CompleteSteps.{Read, Free, Not, less, tok, part, last, else_on, done, free_many, starts_not_r, starts_weak}
 use Rattle.sql_grammar.proofs.CompleteStarts.{comp_starts, r_level}
 use Rattle.sql_grammar.proofs.CompleteLevels.{no_prefix}
 use Rattle.sql_grammar.proofs.CompleteChains.{chain_read}
@@ -89,8 +89,8 @@ passed deep g = refl
 module _ (n : ℕ) (b : Below) (ts : Tokens) (no_not : comes (reserved r.Not) ts ≡ false) (no_sign : comes (tells prefix_of) ts ≡ false) where
   none : {A : Type 0} (fits : Token → Bool) (item : Parser A) (m : ℕ) → comes fits ts ≡ false → many fits item m [] ts ≡ taken [] ts
   unfolding many
-  none fits item zero h = no_ {N = Unit {0}} h _ _ done tt
-  none fits item (suc m) h = no_ {N = Unit {0}} h _ _ done tt
+  none fits item zero h = else_on {N = Unit {0}} h _ _ done tt
+  none fits item (suc m) h = else_on {N = Unit {0}} h _ _ done tt
 
   unary_then : {A : Type 0} (k : Expr → Parser A) → and_then (unary n b ts) k ≡ and_then (postfix n b ts) k
   unfolding unary prefixes

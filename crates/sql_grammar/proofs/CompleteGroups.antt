@@ -35,8 +35,8 @@ use Rattle.sql_grammar.proofs.Basics.{HeldOf, holds_query, holds_exprs}
 use Rattle.sql_grammar.proofs.Ways.{start_front}
 use Rattle.sql_grammar.proofs.Solid.{no_expr, solid_expr}
 use Rattle.sql_grammar.proofs.Follows.{Over, Starts, level, rank, is_sign}
-use Rattle.sql_grammar.proofs.CompleteSteps.{Read, Free, Not, less, under, tok, also, part, last, only, yes, no_, peeked, done, inside, weak, refute, over_r, over_s, over_not_r, r_test, s_test, w_test, starts_not_s, after_read, after_begins, over_many, comma_level, many_ahead, Ahead, nothing_ahead, r_ahead, to, on}
-use Rattle.sql_grammar.proofs.CompleteStarts.{expr_starts, list_starts, starts_s, starts_at}
+use Rattle.sql_grammar.proofs.CompleteSteps.{Read, Free, Not, less, under, tok, also, part, last, only, then_on, else_on, peeked, done, inside, weak, refute, over_r, over_s, over_not_r, r_test, s_test, w_test, starts_not_s, after_read, after_begins, over_many, comma_level, many_ahead, Ahead, nothing_ahead, r_ahead, to, on}
+use Rattle.sql_grammar.proofs.CompleteStarts.{expr_starts, list_starts, starts_s}
 use Rattle.sql_grammar.proofs.CompleteRepeats.{begun_only}
 use Rattle.sql_grammar.proofs.CompleteParts.{Reading, bracketed_read, commas_read, commas_ahead}
 use Rattle.sql_grammar.proofs.CompleteHeld.{held_read}
@@ -172,14 +172,14 @@ module _ (n : ℕ) (b : Below) (x : Reading n b) where
 
   gitem_by : {a : GroupItem Expr} {u : Tokens} → GroupItemOf a u → (rest : Tokens) → Over 10 rest → length (u ++ rest) < n → gitem n b (u ++ rest) ≡ taken a rest
   unfolding gitem same_sign
-  gitem_by (gitem_empty io ic) rest f = yes io.is _ _ (also io _ (yes ic.is _ _ (also ic _ done)))
-  gitem_by (gitem_list {o = o} {c = c} {ms = ms} {v = v} io l h ic) rest f = yes io.is _ _ (also io _
-      (no_ (ap (comes (sign s.CloseRound)) (append_assoc v (c ∷ []) rest) ∙ starts_not_s (list_starts ms v (c ∷ rest) l) s.CloseRound (omega arith)) _ _ (last (held_read n b x) (holds_exprs l h ic) _ tt (λ _. list_alone o.start ms rest f))))
-  gitem_by (gitem_expr i l) rest f = no_ i.is _ _ (last x.inner l _ f done)
-  gitem_by (gitem_longer {o = o} {c = c} {a = a} {ms = ms} {v = v} t y io l h ic g) rest f = λ lt. yes io.is _ _ (also io _
-      (no_ (ap (comes (sign s.CloseRound)) (append_assoc v (c ∷ t ∷ y) rest) ∙ starts_not_s (list_starts ms v (c ∷ t ∷ (y ++ rest)) l) s.CloseRound (omega arith)) _ _ (λ _. longer_by o c t a ms v y io l h ic g rest f lt))) lt
-  gitem_by (gitem_query {o = o} {c = c} {a = a} {q = q} {v = v} y io l ic g) rest f = λ lt. yes io.is _ _ (also io _
-      (no_ (ap (comes (sign s.CloseRound)) (append_assoc v (c ∷ y) rest) ∙ query_not_close q v (c ∷ (y ++ rest)) l) _ _ (λ _. query_by o c a q v y io l ic g rest f lt))) lt
+  gitem_by (gitem_empty io ic) rest f = then_on io.is _ _ (also io _ (then_on ic.is _ _ (also ic _ done)))
+  gitem_by (gitem_list {o = o} {c = c} {ms = ms} {v = v} io l h ic) rest f = then_on io.is _ _ (also io _
+      (else_on (ap (comes (sign s.CloseRound)) (append_assoc v (c ∷ []) rest) ∙ starts_not_s (list_starts ms v (c ∷ rest) l) s.CloseRound (omega arith)) _ _ (last (held_read n b x) (holds_exprs l h ic) _ tt (λ _. list_alone o.start ms rest f))))
+  gitem_by (gitem_expr i l) rest f = else_on i.is _ _ (last x.inner l _ f done)
+  gitem_by (gitem_longer {o = o} {c = c} {a = a} {ms = ms} {v = v} t y io l h ic g) rest f = λ lt. then_on io.is _ _ (also io _
+      (else_on (ap (comes (sign s.CloseRound)) (append_assoc v (c ∷ t ∷ y) rest) ∙ starts_not_s (list_starts ms v (c ∷ t ∷ (y ++ rest)) l) s.CloseRound (omega arith)) _ _ (λ _. longer_by o c t a ms v y io l h ic g rest f lt))) lt
+  gitem_by (gitem_query {o = o} {c = c} {a = a} {q = q} {v = v} y io l ic g) rest f = λ lt. then_on io.is _ _ (also io _
+      (else_on (ap (comes (sign s.CloseRound)) (append_assoc v (c ∷ y) rest) ∙ query_not_close q v (c ∷ (y ++ rest)) l) _ _ (λ _. query_by o c a q v y io l ic g rest f lt))) lt
 
   gitem_read : Read n (Over 10) GroupItemOf (gitem n b)
   gitem_read = record { reads = gitem_by }
@@ -203,8 +203,8 @@ module _ (n : ℕ) (b : Below) (x : Reading n b) where
   group_set_read = record { reads = by }
     where
       by : {a : GroupSet Expr} {u : Tokens} → GroupSetOf a u → (rest : Tokens) → Over 10 rest → length (u ++ rest) < n → group_set n b (u ++ rest) ≡ taken a rest
-      by (set_item {a = a} {u = u} l) rest f = no_ (no_cube (u ++ rest) (gitem_starts a u rest l)) _ _ (last gitem_read l _ f done)
-      by (set_cube {a = a} {u = u} l) rest f = yes (cube_comes a u rest l) _ _ (last (less cube_read) l _ tt done)
+      by (set_item {a = a} {u = u} l) rest f = else_on (no_cube (u ++ rest) (gitem_starts a u rest l)) _ _ (last gitem_read l _ f done)
+      by (set_cube {a = a} {u = u} l) rest f = then_on (cube_comes a u rest l) _ _ (last (less cube_read) l _ tt done)
 
   comma_set_read : Read (suc n) (Over 10) (AfterOf (sign s.Comma) GroupSetOf) (comma_group_set n b)
   unfolding comma_group_set
@@ -225,7 +225,7 @@ module _ (n : ℕ) (b : Below) (x : Reading n b) where
     unfolding keys_after
     bracket_keys t u it l lt =
         let both = behind_bracket n b x t u a it l (v ++ rest) key_over lt in
-        tok it _ (no_ (bracket_holds t u a l it (v ++ rest)) _ _ (λ short. ap (λ o. and_then o (keys_after n b t.start)) both.reads ∙ ap (λ o. and_then o (keys n b t.start)) both.goes_on ∙ keys_read t.start a bs v z rest f (shorter u short))) lt
+        tok it _ (else_on (bracket_holds t u a l it (v ++ rest)) _ _ (λ short. ap (λ o. and_then o (keys_after n b t.start)) both.reads ∙ ap (λ o. and_then o (keys n b t.start)) both.goes_on ∙ keys_read t.start a bs v z rest f (shorter u short))) lt
       where
         shorter : (u : Tokens) → length (u ++ (v ++ rest)) < n → length (v ++ rest) < suc n
         shorter [] h = omega arith
@@ -236,7 +236,7 @@ module _ (n : ℕ) (b : Below) (x : Reading n b) where
     grouping_keys t u it l lt =
         let both = behind_grouping n b x t u a it l (v ++ rest) key_over lt in
         let first = both_of (token (sign s.OpenRound) (u ++ (v ++ rest))) _ both.first both.left both.reads in
-        tok it _ (no_ (open_not_word (u ++ (v ++ rest)) (token_came (sign s.OpenRound) first.first (u ++ (v ++ rest)) first.left first.reads)) _ _
+        tok it _ (else_on (open_not_word (u ++ (v ++ rest)) (token_came (sign s.OpenRound) first.first (u ++ (v ++ rest)) first.left first.reads)) _ _
         (λ short. ap (λ o. and_then o (λ k. expr_after n b t.start (e.Grouping k t.start) >>= keys n b t.start)) both.reads ∙ ap (λ o. and_then o (keys n b t.start)) both.goes_on ∙ keys_read t.start a bs v z rest f (shorter u short))) lt
       where
         shorter : (u : Tokens) → length (u ++ (v ++ rest)) < n → length (v ++ rest) < suc n
@@ -262,9 +262,9 @@ module _ (n : ℕ) (b : Below) (x : Reading n b) where
       by (groups_keys (list_is {a = a} {bs = bs} {u = u} {v = v} l z)) rest f = λ lt.
           ap (grouped_by n b) (append_assoc u v rest) ∙ keys_first a bs v z rest f u l (let k : length ((u ++ v) ++ rest) ≡ length (u ++ (v ++ rest)) = ap length (append_assoc u v rest) in omega arith)
           ∙ ap (λ (p : ℕ). taken (groups_kind.Keys (a ∷ bs) p) rest) (sym (start_front u v (solid_expr a u l)))
-      by (groups_empty {o = o} io ic) rest f = peeked (class_of groups_expr groups_class) (groups_by n b o.start) (s_test s.OpenRound groups_class io refl) (also io _ (yes ic.is _ _ (also ic _ done)))
+      by (groups_empty {o = o} io ic) rest f = peeked (class_of groups_expr groups_class) (groups_by n b o.start) (s_test s.OpenRound groups_class io refl) (also io _ (then_on ic.is _ _ (also ic _ done)))
       by (groups_sets {t = t} {c = c} {a = a} {ms = ms} {u = u} {v = v} i j io l z ic) rest f = peeked (class_of groups_expr groups_class) (groups_by n b t.start) (r_test r.Grouping groups_class i refl)
-          (also i _ (yes j.is _ _ (also j _ (also io _ (part group_set_read l (v ++ (c ∷ [])) rest _
+          (also i _ (then_on j.is _ _ (also j _ (also io _ (part group_set_read l (v ++ (c ∷ [])) rest _
           (on (c ∷ []) rest (many_ahead {j = 10} {k = 15} (sign s.Comma) comma_level (omega arith) (after_begins (sign s.Comma) GroupSetOf) ms v (many_sets ms v z)) (omega arith) (over_s s.CloseRound ic (omega arith)))
           (part (less (over_many (sign s.Comma) comma_level (omega arith) (after_begins (sign s.Comma) GroupSetOf) comma_set_read (a ∷ []) many_sets)) (ms, z, refl) (c ∷ []) rest _ (over_s s.CloseRound ic (omega arith)) (also ic _ done)))))))
       by (groups_cube {t = t} {a = a} {u = u} l) rest f = peeked (class_of groups_expr groups_class) (groups_by n b t.start) (cube_says a t u l) (last (less cube_read) l _ tt done)
@@ -274,8 +274,8 @@ module _ (n : ℕ) (b : Below) (x : Reading n b) where
   group_by_read = record { reads = by }
     where
       by : {a : Option (Groups Expr)} {u : Tokens} → GroupByOf a u → (rest : Tokens) → Over 18 rest → length (u ++ rest) < suc n → group_by n b (u ++ rest) ≡ taken a rest
-      by group_none rest f = no_ (over_not_r f r.Group (omega arith)) _ _ done
-      by (group_is i j l) rest f = yes i.is _ _ (tok i _ (also j _ (last grouped_read l _ (weak (omega arith) f) done)))
+      by group_none rest f = else_on (over_not_r f r.Group (omega arith)) _ _ done
+      by (group_is i j l) rest f = then_on i.is _ _ (tok i _ (also j _ (last grouped_read l _ (weak (omega arith) f) done)))
 
 pub group_by_ahead : (a : Option (Groups Expr)) (u : Tokens) → GroupByOf a u → Ahead 18 u
 group_by_ahead _ _ group_none = nothing_ahead

@@ -34,7 +34,7 @@ use Rattle.sql_grammar.proofs.Subqueries.{subquery_opens}
 use Rattle.sql_grammar.proofs.Basics.{HeldOf, holds_query, holds_exprs}
 use Rattle.sql_grammar.proofs.Solid.{solid_basic, no_expr}
 use Rattle.sql_grammar.proofs.Follows.{Over, Starts, level, rank, is_reserved, is_sign, is_named, is_word}
-use Rattle.sql_grammar.proofs.CompleteSteps.{Read, Free, Not, Comes, less, tok, also, part, last, only, yes, no_, peeked, done, weak, over_r, over_s, over_not_s, r_test, s_test, n_test, Ahead, nothing_ahead, level_ahead, to, on}
+use Rattle.sql_grammar.proofs.CompleteSteps.{apart, Read, Free, Not, Comes, less, tok, also, part, last, only, then_on, else_on, peeked, done, weak, over_r, over_s, over_not_s, r_test, s_test, n_test, Ahead, nothing_ahead, level_ahead, to, on}
 use Rattle.sql_grammar.proofs.CompleteStarts.{expr_starts, starts_r, r_level}
 use Rattle.sql_grammar.proofs.CompleteWords.{limit_ahead}
 use Rattle.sql_grammar.proofs.CompleteFronts.{FrontPart, expr_front, basic_expr}
@@ -45,19 +45,13 @@ use Rattle.sql_grammar.proofs.CompleteBasics.{with_body_read}
 
 -- ---- what a token isn't
 
-not_with : {t : Token} {x : Lexeme} → Is (reserved r.With) t → t.lexeme ≡ x → reserved_lexeme r.With x ≡ false → ⊥
-not_with {t} i e h = let g : true ≡ false = sym i.is ∙ ap (reserved_lexeme r.With) e ∙ h in cc
-
-no_literal : (f : Lexeme → Bool) (t : Token) → Is (reserved r.With) t → f (l.Reserved r.With) ≡ false → f t.lexeme ≡ true → ⊥
-no_literal f t i e h = let g : true ≡ false = sym h ∙ ap f (is_reserved i) ∙ e in cc
-
 abbrev tells_function : Lexeme → Bool
 tells_function x = elim (function_lexeme x) [ None ↦ false | Some a ↦ true ]
 
 no_items : (ms : List Expr) (d t : Token) (u : Tokens) → Is (reserved r.With) t → ArrayItemsOf ms d (t ∷ u) → ⊥
 unfolding same_reserved
-no_items _ _ t _ i (array_empty j k) = not_with i (is_sign j) refl
-no_items _ _ t _ i (array_items j l k) = not_with i (is_sign j) refl
+no_items _ _ t _ i (array_empty j k) = apart (reserved_lexeme r.With) i.is (is_sign {x = s.OpenSquare} j) refl
+no_items _ _ t _ i (array_items j l k) = apart (reserved_lexeme r.With) i.is (is_sign {x = s.OpenSquare} j) refl
 
 -- ---- the words of set operations
 
@@ -98,32 +92,32 @@ data WithIs (t : Token) : Expr → Tokens → Type 0 where
 
 with_word : (t : Token) (u : Tokens) (a : Expr) → BasicOf a (t ∷ u) → Is (reserved r.With) t → WithIs t a u
 unfolding same_reserved
-with_word t _ _ (basic_integer i) h = absurd (no_literal integer_lexeme t h refl i.is)
-with_word t _ _ (basic_string i) h = absurd (no_literal text_lexeme t h refl i.is)
-with_word t _ _ (basic_bytes i) h = absurd (no_literal bytes_lexeme t h refl i.is)
-with_word t _ _ (basic_true i) h = absurd (not_with h (is_reserved {x = r.True} i) refl)
-with_word t _ _ (basic_false i) h = absurd (not_with h (is_reserved {x = r.False} i) refl)
-with_word t _ _ (basic_null i) h = absurd (not_with h (is_reserved {x = r.Null} i) refl)
-with_word t _ _ (basic_date i j) h = absurd (not_with h ((is_word {x = w.Date} i).is) refl)
-with_word t _ _ (basic_parameter i) h = absurd (no_literal parameter_lexeme t h refl i.is)
-with_word t _ _ (basic_name i) h = absurd (not_with h ((is_named i).is) refl)
-with_word t _ _ (basic_call {k = k} {u = u} l) h = absurd (no_literal tells_function t h refl (call_function t k u l).is)
-with_word t _ _ (basic_safe_call i j g k) h = absurd (not_with h ((is_word {x = w.Safe} i).is) refl)
-with_word t _ _ (basic_group i l g j) h = absurd (not_with h (is_sign {x = s.OpenRound} i) refl)
-with_word t _ _ (basic_query i l j) h = absurd (not_with h (is_sign {x = s.OpenRound} i) refl)
-with_word t _ _ (basic_tuple i l j) h = absurd (not_with h (is_sign {x = s.OpenRound} i) refl)
-with_word t _ _ (basic_case i a b c d j) h = absurd (not_with h (is_reserved {x = r.Case} i) refl)
-with_word t _ _ (basic_cast i j l g y k) h = absurd (not_with h (is_reserved {x = r.Cast} i) refl)
-with_word t _ _ (basic_safe_cast i j l g y k) h = absurd (not_with h ((is_word {x = w.SafeCast} i).is) refl)
-with_word t _ _ (basic_extract i j g k l c) h = absurd (not_with h (is_reserved {x = r.Extract} i) refl)
-with_word t _ _ (basic_grouping i j l c) h = absurd (not_with h (is_reserved {x = r.Grouping} i) refl)
-with_word t _ _ (basic_exists i j l c) h = absurd (not_with h (is_reserved {x = r.Exists} i) refl)
-with_word t _ _ (basic_array_query i j l c) h = absurd (not_with h (is_reserved {x = r.Array} i) refl)
+with_word t _ _ (basic_integer i) h = absurd (apart integer_lexeme i.is (is_reserved {x = r.With} h) refl)
+with_word t _ _ (basic_string i) h = absurd (apart text_lexeme i.is (is_reserved {x = r.With} h) refl)
+with_word t _ _ (basic_bytes i) h = absurd (apart bytes_lexeme i.is (is_reserved {x = r.With} h) refl)
+with_word t _ _ (basic_true i) h = absurd (apart (reserved_lexeme r.With) h.is (is_reserved {x = r.True} i) refl)
+with_word t _ _ (basic_false i) h = absurd (apart (reserved_lexeme r.With) h.is (is_reserved {x = r.False} i) refl)
+with_word t _ _ (basic_null i) h = absurd (apart (reserved_lexeme r.With) h.is (is_reserved {x = r.Null} i) refl)
+with_word t _ _ (basic_date i j) h = absurd (apart (reserved_lexeme r.With) h.is (is_word {x = w.Date} i).is refl)
+with_word t _ _ (basic_parameter i) h = absurd (apart parameter_lexeme i.is (is_reserved {x = r.With} h) refl)
+with_word t _ _ (basic_name i) h = absurd (apart (reserved_lexeme r.With) h.is (is_named i).is refl)
+with_word t _ _ (basic_call {k = k} {u = u} l) h = absurd (apart tells_function (call_function t k u l).is (is_reserved {x = r.With} h) refl)
+with_word t _ _ (basic_safe_call i j g k) h = absurd (apart (reserved_lexeme r.With) h.is (is_word {x = w.Safe} i).is refl)
+with_word t _ _ (basic_group i l g j) h = absurd (apart (reserved_lexeme r.With) h.is (is_sign {x = s.OpenRound} i) refl)
+with_word t _ _ (basic_query i l j) h = absurd (apart (reserved_lexeme r.With) h.is (is_sign {x = s.OpenRound} i) refl)
+with_word t _ _ (basic_tuple i l j) h = absurd (apart (reserved_lexeme r.With) h.is (is_sign {x = s.OpenRound} i) refl)
+with_word t _ _ (basic_case i a b c d j) h = absurd (apart (reserved_lexeme r.With) h.is (is_reserved {x = r.Case} i) refl)
+with_word t _ _ (basic_cast i j l g y k) h = absurd (apart (reserved_lexeme r.With) h.is (is_reserved {x = r.Cast} i) refl)
+with_word t _ _ (basic_safe_cast i j l g y k) h = absurd (apart (reserved_lexeme r.With) h.is (is_word {x = w.SafeCast} i).is refl)
+with_word t _ _ (basic_extract i j g k l c) h = absurd (apart (reserved_lexeme r.With) h.is (is_reserved {x = r.Extract} i) refl)
+with_word t _ _ (basic_grouping i j l c) h = absurd (apart (reserved_lexeme r.With) h.is (is_reserved {x = r.Grouping} i) refl)
+with_word t _ _ (basic_exists i j l c) h = absurd (apart (reserved_lexeme r.With) h.is (is_reserved {x = r.Exists} i) refl)
+with_word t _ _ (basic_array_query i j l c) h = absurd (apart (reserved_lexeme r.With) h.is (is_reserved {x = r.Array} i) refl)
 with_word t u _ (basic_array {b = d} {ms = ms} l) h = absurd (no_items ms d t u h l)
-with_word t _ _ (basic_array_word i l) h = absurd (not_with h (is_reserved {x = r.Array} i) refl)
-with_word t _ _ (basic_array_typed i j y g l) h = absurd (not_with h (is_reserved {x = r.Array} i) refl)
-with_word t _ _ (basic_struct i j a b c) h = absurd (not_with h (is_reserved {x = r.Struct} i) refl)
-with_word t _ _ (basic_typed_struct i j f g k l c) h = absurd (not_with h (is_reserved {x = r.Struct} i) refl)
+with_word t _ _ (basic_array_word i l) h = absurd (apart (reserved_lexeme r.With) h.is (is_reserved {x = r.Array} i) refl)
+with_word t _ _ (basic_array_typed i j y g l) h = absurd (apart (reserved_lexeme r.With) h.is (is_reserved {x = r.Array} i) refl)
+with_word t _ _ (basic_struct i j a b c) h = absurd (apart (reserved_lexeme r.With) h.is (is_reserved {x = r.Struct} i) refl)
+with_word t _ _ (basic_typed_struct i j f g k l c) h = absurd (apart (reserved_lexeme r.With) h.is (is_reserved {x = r.Struct} i) refl)
 with_word t _ _ (basic_with i io l z ik g ic) h = with_is io l z ik g ic
 
 with_opens : (t : Token) (u : Tokens) (a : Expr) → WithIs t a u → (rest : Tokens) → comes (sign s.OpenRound) (u ++ rest) ≡ true
@@ -146,7 +140,7 @@ module _ (n : ℕ) (b : Below) (x : Reading n b) where
   unfolding two_listed alone
   from_read a bs v z h c ic rest None g = last (less (list_closed_read n b x s.CloseRound refl (a ∷ []))) (commas_closed z ic) _ tt done
   from_read a _ _ commas_none h c ic rest (Some o) g = absurd (let i : true ≡ false = sym (subquery_opens a o g) ∙ h in cc)
-  from_read a _ _ (commas_more {t = t} {a = d} {bs = bs} {u = u} {v = v} i l z) h c ic rest (Some o) g = yes i.is _ _
+  from_read a _ _ (commas_more {t = t} {a = d} {bs = bs} {u = u} {v = v} i l z) h c ic rest (Some o) g = then_on i.is _ _
       (subst (λ (w : Tokens). length ((t ∷ w) ++ rest) < n → two_listed n b a ((t ∷ w) ++ rest) ≡ taken (held_exprs (a ∷ d ∷ bs)) rest) (sym (append_assoc u v (c ∷ [])))
       (part (less (comma_expr_read n b x)) (after_of i l) (v ++ (c ∷ [])) rest _ (closed_over n b x s.CloseRound refl bs v z c ic rest) (last (less (list_closed_read n b x s.CloseRound refl (a ∷ d ∷ []))) (commas_closed z ic) _ tt done)))
 
@@ -164,7 +158,7 @@ module _ (n : ℕ) (b : Below) (x : Reading n b) where
   held_with_read t w y d a m it l bs v z h c ic rest lt =
       let long : length (((t ∷ w) ++ y) ++ ((v ++ (c ∷ [])) ++ rest)) ≡ length ((t ∷ (w ++ (y ++ (v ++ (c ∷ []))))) ++ rest)
           = ap (λ (q : Tokens). length (t ∷ q)) (sym (append_assoc (w ++ y) (v ++ (c ∷ [])) rest) ∙ ap (λ (q : Tokens). q ++ rest) (append_assoc w y (v ++ (c ∷ [])))) in
-      yes {N = length ((w ++ (y ++ (v ++ (c ∷ [])))) ++ rest) < n} (ap (λ (q : Tokens). comes (sign s.OpenRound) q) (append_assoc w (y ++ (v ++ (c ∷ []))) rest) ∙ with_opens t w d (with_word t w d m it) ((y ++ (v ++ (c ∷ []))) ++ rest)) _ _
+      then_on {N = length ((w ++ (y ++ (v ++ (c ∷ [])))) ++ rest) < n} (ap (λ (q : Tokens). comes (sign s.OpenRound) q) (append_assoc w (y ++ (v ++ (c ∷ []))) rest) ∙ with_opens t w d (with_word t w d m it) ((y ++ (v ++ (c ∷ []))) ++ rest)) _ _
       (part (less (with_body_all t it)) m (y ++ (v ++ (c ∷ []))) rest _ tt
       (λ short. ap (λ (q : Tokens). and_then (b.rest t.start d q) (held_from n b)) (append_assoc y (v ++ (c ∷ [])) rest)
       ∙ ap (λ o. and_then o (held_from n b)) (x.rest d a t w y it m l ((v ++ (c ∷ [])) ++ rest) (closed_over n b x s.CloseRound refl bs v z c ic rest) (omega arith))
@@ -225,7 +219,7 @@ module _ (n : ℕ) (b : Below) (x : Reading n b) where
       (peeked (class_of by_expr content_class) (enclosed_by n b) (s_test s.OpenRound content_class io refl)
       (part x.inner (basic_expr (e.Scalar q o.start) (o ∷ (v ++ (d ∷ []))) (basic_query io l id)) ((w ++ (y ++ z)) ++ (c ∷ [])) rest _ (weak (omega arith) over)
       (λ lt. scalar_from q o.start (((w ++ (y ++ z)) ++ (c ∷ [])) ++ rest)
-      ∙ no_ (over_not_s over s.Comma (omega arith)) _ _ (closed_by _ (x.term_more (term.Query q o.start) o.start) tree (w ++ (y ++ z)) (term_more_is m g i) c ic rest (over_s s.CloseRound ic (omega arith))) lt)))
+      ∙ else_on (over_not_s over s.Comma (omega arith)) _ _ (closed_by _ (x.term_more (term.Query q o.start) o.start) tree (w ++ (y ++ z)) (term_more_is m g i) c ic rest (over_s s.CloseRound ic (omega arith))) lt)))
 
   query_by : (q : Query) (u : Tokens) → QueryOf q u → (c : Token) → Is (sign s.CloseRound) c → (rest : Tokens) → length ((u ++ (c ∷ [])) ++ rest) < n → enclosed n b ((u ++ (c ∷ [])) ++ rest) ≡ taken (held_query q) rest
   unfolding enclosed held_with
@@ -237,7 +231,7 @@ module _ (n : ℕ) (b : Below) (x : Reading n b) where
       ≡ taken (held_query (roll-Query (record { ctes = []; body = record { first = term.Query q o.start; rest = ms; place = o.start }; order = ss; limit = j; place = o.start }))) rest)
       (sym (append_assoc (o ∷ (v ++ (d ∷ []))) w (y ++ z))) (term_by o d q v io l id k ms w m ss y g j z i c ic rest)
   query_by _ _ (query_is (ctes_are {t = t} it (cte_is jn ja jo jq jc) k) m g j) c ic rest =
-      peeked (class_of by_expr content_class) (enclosed_by n b) (r_test r.With content_class it refl) (also it _ (no_ (n_test (sign_lexeme s.OpenRound) jn (λ n o. refl)) _ _
+      peeked (class_of by_expr content_class) (enclosed_by n b) (r_test r.With content_class it refl) (also it _ (else_on (n_test (sign_lexeme s.OpenRound) jn (λ n o. refl)) _ _
       (closed_by _ (x.with_more t it) _ _ (query_is (ctes_are it (cte_is jn ja jo jq jc) k) m g j) c ic rest (over_s s.CloseRound ic (omega arith)))))
 
   pub held_read : Read n Free HeldOf (enclosed n b)

@@ -29,7 +29,7 @@ use Rattle.sql_grammar.proofs.Marks.{AfterOf, after_of}
 use Rattle.sql_grammar.proofs.Ways.{start_front}
 use Rattle.sql_grammar.proofs.Solid.{solid_postfix, solid_expr, no_expr}
 use Rattle.sql_grammar.proofs.Follows.{Over, Starts, level, rank, is_reserved}
-use Rattle.sql_grammar.proofs.CompleteSteps.{Read, Free, Not, less, under, tok, also, part, last, only, yes, no_, peeked, done, weak, refute, over_r, over_s, over_not_r, over_not_w, r_test, s_test, w_test, after_read, after_begins, over_many, comma_level, many_ahead, Ahead, to, on}
+use Rattle.sql_grammar.proofs.CompleteSteps.{Read, Free, Not, less, under, tok, also, part, last, only, then_on, else_on, peeked, done, weak, refute, over_r, over_s, over_not_r, over_not_w, r_test, s_test, w_test, after_read, after_begins, over_many, comma_level, many_ahead, Ahead, to, on}
 use Rattle.sql_grammar.proofs.CompleteStarts.{postfix_starts, expr_starts}
 use Rattle.sql_grammar.proofs.CompleteRepeats.{begun, begun_only}
 use Rattle.sql_grammar.proofs.CompleteWords.{alias_read, alias_ahead, over_no_alias, names_read}
@@ -132,20 +132,20 @@ module _ (n : ℕ) (b : Below) (x : Reading n b) where
   replaces_read = record { reads = by }
     where
       by : {a : List (Replacement Expr)} {u : Tokens} → ReplaceOf a u → (rest : Tokens) → Over 11 rest → length (u ++ rest) < suc n → replaces n b (u ++ rest) ≡ taken a rest
-      by replace_none rest f = no_ (over_not_w f w.Replace (omega arith)) _ _ done
-      by (replace_is {c = c} {a = a} {ms = ms} {v = v} i io l z ic) rest f = yes i.is _ _ (tok i _ (also io _ (part replacement_read l (v ++ (c ∷ [])) rest _ tt
+      by replace_none rest f = else_on (over_not_w f w.Replace (omega arith)) _ _ done
+      by (replace_is {c = c} {a = a} {ms = ms} {v = v} i io l z ic) rest f = then_on i.is _ _ (tok i _ (also io _ (part replacement_read l (v ++ (c ∷ [])) rest _ tt
           (part (less (over_many {j = 14} (sign s.Comma) comma_level (omega arith) (after_begins (sign s.Comma) ReplacementOf) (under comma_replacement_read (λ ts h. tt)) (a ∷ []) many_replacements)) (ms, z, refl) (c ∷ []) rest _ (over_s s.CloseRound ic (omega arith))
           (also ic _ done)))))
 
   edit_by : (make : Edit Expr → Item Expr) (d : Edit Expr) (v : Tokens) → EditOf d v → (rest : Tokens) → Over 11 rest → NoEdit rest → length (v ++ rest) < suc n → Kept (edited n b make (v ++ rest)) (make d) rest
   unfolding edited except_or_end same_reserved
-  edit_by make _ _ (edit_is (except_is i (names_are {o = o} io jn z ic)) m) rest f g lt = inl (yes i.is _ _ (tok i _ (yes io.is _ _ (part (less (names_read n)) (names_are io jn z ic) _ rest _ tt (last (less replaces_read) m _ f done)))) lt)
-  edit_by make _ _ (edit_is except_none (replace_is i io l z ic)) rest f g lt = inl (no_ (w_test w.Replace (reserved_lexeme r.Except) i (λ n. refl)) _ _ (last replaces_read (replace_is i io l z ic) _ f done) lt)
+  edit_by make _ _ (edit_is (except_is i (names_are {o = o} io jn z ic)) m) rest f g lt = inl (then_on i.is _ _ (tok i _ (then_on io.is _ _ (part (less (names_read n)) (names_are io jn z ic) _ rest _ tt (last (less replaces_read) m _ f done)))) lt)
+  edit_by make _ _ (edit_is except_none (replace_is i io l z ic)) rest f g lt = inl (else_on (w_test w.Replace (reserved_lexeme r.Except) i (λ n. refl)) _ _ (last replaces_read (replace_is i io l z ic) _ f done) lt)
   edit_by make _ _ (edit_is except_none replace_none) rest f g lt = by_rest rest f g lt
     where
       by_word : (t : Token) (ts : Tokens) → Over 11 (t ∷ ts) → NoEdit (t ∷ ts) → length (t ∷ ts) < suc n → (c : Bool) → reserved r.Except t ≡ c → Kept (edited n b make (t ∷ ts)) (make (record { except = []; replace = [] })) (t ∷ ts)
-      by_word t ts f g lt true h = inr (record { word = t; left = ts; is = refl; except = record { is = h }; reads = yes h _ _ (tok (record { is = h }) _ (no_ (g.no_edit t ts refl (record { is = h })) _ _ done)) lt })
-      by_word t ts f g lt false h = inl (no_ h _ _ (last replaces_read replace_none _ f done) lt)
+      by_word t ts f g lt true h = inr (record { word = t; left = ts; is = refl; except = record { is = h }; reads = then_on h _ _ (tok (record { is = h }) _ (else_on (g.no_edit t ts refl (record { is = h })) _ _ done)) lt })
+      by_word t ts f g lt false h = inl (else_on h _ _ (last replaces_read replace_none _ f done) lt)
 
       by_rest : (ts : Tokens) → Over 11 ts → NoEdit ts → length ts < suc n → Kept (edited n b make ts) (make (record { except = []; replace = [] })) ts
       by_rest [] f g lt = inl (last replaces_read replace_none _ f done lt)

@@ -28,7 +28,7 @@ use Rattle.sql_grammar.specs.Exprs.{Below}
 use Rattle.sql_grammar.specs.Queries.{joined_of, on_next, primary_item, on_expr, on_using, condition, on_part, joined_freely, join_freely, join_on, outer_freely, outer_on, cross_behind, join_by, later_by, join_item, comma_behind, comma_join, later_join, from_item, from_part}
 use Rattle.sql_grammar.proofs.Froms.{LaterOf, later_comma, later_is}
 use Rattle.sql_grammar.proofs.Follows.{Over, level}
-use Rattle.sql_grammar.proofs.CompleteSteps.{Read, Free, Not, less, under, tok, also, part, last, only, yes, no_, peeked, done, weak, over_r, over_s, over_not_r, r_test, s_test, many_read, Ahead, nothing_ahead, level_ahead, r_ahead, s_ahead, to, on}
+use Rattle.sql_grammar.proofs.CompleteSteps.{Read, Free, Not, less, under, tok, also, part, last, only, then_on, else_on, peeked, done, weak, over_r, over_s, over_not_r, r_test, s_test, many_read, Ahead, nothing_ahead, level_ahead, r_ahead, s_ahead, to, on}
 use Rattle.sql_grammar.proofs.CompleteRepeats.{begun}
 use Rattle.sql_grammar.proofs.CompleteWords.{names_read, optional_read, Stood, stood_not, stood_is}
 use Rattle.sql_grammar.proofs.CompleteParts.{Reading}
@@ -177,8 +177,8 @@ module _ (n : ℕ) (b : Below) (x : Reading n b) where
   condition_read = record { reads = by }
     where
       by : {a : On Expr} {u : Tokens} → OnOf a u → (rest : Tokens) → Over 10 rest → length (u ++ rest) < suc n → condition n b (u ++ rest) ≡ taken a rest
-      by (is_on_expr i l) rest f = no_ (r_test r.On (reserved_lexeme r.Using) i refl) _ _ (tok i _ (last x.inner l _ f done))
-      by (is_on_using i l) rest f = yes i.is _ _ (tok i _ (last (less (names_read n)) l _ tt done))
+      by (is_on_expr i l) rest f = else_on (r_test r.On (reserved_lexeme r.Using) i refl) _ _ (tok i _ (last x.inner l _ f done))
+      by (is_on_using i l) rest f = then_on i.is _ _ (tok i _ (last (less (names_read n)) l _ tt done))
 
   abbrev missing : Bool → Parser (Option (On Expr))
   missing c = elim c [ true ↦ pure None | false ↦ refuse ]
@@ -188,8 +188,8 @@ module _ (n : ℕ) (b : Below) (x : Reading n b) where
   on_part_read a = record { reads = by }
     where
       by : {o : Option (On Expr)} {u : Tokens} → OnPartOf a o u → (rest : Tokens) → Over 13 rest → length (u ++ rest) < suc n → on_part n b a (u ++ rest) ≡ taken o rest
-      by (on_is {o = o} {u = u} l) rest f = yes (on_comes o u rest l) _ _ (last condition_read l _ (weak (omega arith) f) done)
-      by (on_missing h) rest f = no_ (no_on rest f) _ _ (λ _. ap (λ c. missing c rest) h)
+      by (on_is {o = o} {u = u} l) rest f = then_on (on_comes o u rest l) _ _ (last condition_read l _ (weak (omega arith) f) done)
+      by (on_missing h) rest f = else_on (no_on rest f) _ _ (λ _. ap (λ c. missing c rest) h)
 
   -- primary [on]
   data FreelyOf (k : JoinWord) (p : ℕ) : Joined → Tokens → Type 0 where
@@ -238,7 +238,7 @@ module _ (n : ℕ) (b : Below) (x : Reading n b) where
   -- behind a comma RIGHT and FULL don't come, and the others are read as before it
   same_later : (t : Token) (ts : Tokens) (k : JoinStart) → join_class t.lexeme ≡ k → sign s.Comma t ≡ false → ((ts : Tokens) → later_by n b k ts ≡ join_by n b k ts) → later_join n b (t ∷ ts) ≡ join_item n b (t ∷ ts)
   unfolding later_join join_item
-  same_later t ts k q h same = no_ {N = Unit {0}} h _ _ (λ _. peeked {N = Unit {0}} (class_of no_join join_class) (later_by n b) {ts = t ∷ ts} q (λ _. same (t ∷ ts) ∙ sym (peeked {N = Unit {0}} (class_of no_join join_class) (join_by n b) {ts = t ∷ ts} q done tt)) tt) tt
+  same_later t ts k q h same = else_on {N = Unit {0}} h _ _ (λ _. peeked {N = Unit {0}} (class_of no_join join_class) (later_by n b) {ts = t ∷ ts} q (λ _. same (t ∷ ts) ∙ sym (peeked {N = Unit {0}} (class_of no_join join_class) (join_by n b) {ts = t ∷ ts} q done tt)) tt) tt
 
   later_same : (a : Joined) (u rest : Tokens) → JoinOf true a u → later_join n b (u ++ rest) ≡ join_item n b (u ++ rest)
   unfolding same_sign
@@ -252,7 +252,7 @@ module _ (n : ℕ) (b : Below) (x : Reading n b) where
   later_read = record { reads = by }
     where
       by : {a : Joined} {u : Tokens} → LaterOf a u → (rest : Tokens) → Over 13 rest → length (u ++ rest) < suc n → later_join n b (u ++ rest) ≡ taken a rest
-      by (later_comma i l) rest f = yes i.is _ _ (tok i _ (last (less (primary_read n b x)) l _ (weak (omega arith) f) done))
+      by (later_comma i l) rest f = then_on i.is _ _ (tok i _ (last (less (primary_read n b x)) l _ (weak (omega arith) f) done))
       by (later_is {a = a} {u = u} l) rest f = λ lt. later_same a u rest l ∙ join_read_by a u l rest f lt
 
   -- ---- FROM
@@ -304,8 +304,8 @@ module _ (n : ℕ) (b : Below) (x : Reading n b) where
   from_part_read = record { reads = by }
     where
       by : {a : Option FromItem} {u : Tokens} → FromPartOf a u → (rest : Tokens) → Over 16 rest → length (u ++ rest) < suc n → from_part n b (u ++ rest) ≡ taken a rest
-      by from_none rest f = no_ (over_not_r f r.From (omega arith)) _ _ done
-      by (from_is i (from_are {a = a} {ms = ms} {u = u} {v = v} l z)) rest f = yes i.is _ _ (tok i _ (λ lt. ap (λ o. and_then o (λ f. λ ts. taken (Some f) ts)) (from_by a u l ms v (split_joins ms v z) rest (weak (omega arith) f) (omega arith))))
+      by from_none rest f = else_on (over_not_r f r.From (omega arith)) _ _ done
+      by (from_is i (from_are {a = a} {ms = ms} {u = u} {v = v} l z)) rest f = then_on i.is _ _ (tok i _ (λ lt. ap (λ o. and_then o (λ f. λ ts. taken (Some f) ts)) (from_by a u l ms v (split_joins ms v z) rest (weak (omega arith) f) (omega arith))))
 
 pub from_part_ahead : (a : Option FromItem) (u : Tokens) → FromPartOf a u → Ahead 16 u
 from_part_ahead _ _ from_none = nothing_ahead

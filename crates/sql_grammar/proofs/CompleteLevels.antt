@@ -26,7 +26,7 @@ use Rattle.sql_grammar.proofs.Marks.{told_is, tells_is}
 use Rattle.sql_grammar.proofs.Levels.{LinkOf, link_of}
 use Rattle.sql_grammar.proofs.Solid.{solid_unary, solid_prod, solid_sum, solid_shift, solid_band, solid_bxor}
 use Rattle.sql_grammar.proofs.Follows.{Over, Starts, level, rank}
-use Rattle.sql_grammar.proofs.CompleteSteps.{Read, Free, Not, less, tok, also, part, last, yes, no_, done, weak, to, s_test, free_many}
+use Rattle.sql_grammar.proofs.CompleteSteps.{Read, Free, Not, less, tok, also, part, last, then_on, else_on, done, weak, to, s_test, free_many}
 use Rattle.sql_grammar.proofs.CompleteStarts.{postfix_starts, product_level, sum_level, s_level, says_product, says_sum, shifts_ahead}
 use Rattle.sql_grammar.proofs.CompleteRepeats.{begun, One, one, Gone, GoneTo, gone_to, until_read, until_to_read}
 use Rattle.sql_grammar.proofs.CompleteChains.{chain_read, PlainOf, plain_of, EndsIn, ends_in, Pends, plain_chain, greater_chain}
@@ -148,12 +148,12 @@ module _ (n : ℕ) (b : Below) (x : Read (suc n) (Over 1) PostfixOf (postfix n b
   shift_item_read = record { reads = by }
     where
       by : {a : Ended (Link Expr) Token} {u : Tokens} → One ShiftIs a u → (rest : Tokens) → Over 3 rest → length (u ++ rest) < suc n → shift_item n b (u ++ rest) ≡ taken a rest
-      by (one (left_is i l)) rest f = yes i.is _ _ (tok i _ (last (less sum_read) l _ f done))
-      by (one (right_is i j l)) rest f = no_ (s_test s.Greater (sign_lexeme s.LessLess) i refl) _ _ (tok i _ (yes j.is _ _ (also j _ (last (less sum_read) l _ f done))))
+      by (one (left_is i l)) rest f = then_on i.is _ _ (tok i _ (last (less sum_read) l _ f done))
+      by (one (right_is i j l)) rest f = else_on (s_test s.Greater (sign_lexeme s.LessLess) i refl) _ _ (tok i _ (then_on j.is _ _ (also j _ (last (less sum_read) l _ f done))))
 
   shift_final_ends : (g : Token) (xs : List (Link Expr)) (c : Token) (u : Tokens) → ShiftFinal g xs c u → (rest : Tokens) → Not (closes_shift g) rest → length (u ++ rest) < suc n → shift_item n b (u ++ rest) ≡ taken (xs, Some c) rest
   unfolding shift_item greater_or_shift same_sign
-  shift_final_ends g _ _ _ (shift_final i) rest f = no_ (s_test s.Greater (sign_lexeme s.LessLess) i refl) _ _ (tok i _ (no_ f.is _ _ done))
+  shift_final_ends g _ _ _ (shift_final i) rest f = else_on (s_test s.Greater (sign_lexeme s.LessLess) i refl) _ _ (tok i _ (else_on f.is _ _ done))
 
   over_shift : (t : Token) (ts : Tokens) → shift_next t ≡ true → Over 3 (t ∷ ts)
   over_shift t ts h = record { over = let g = shift_level t h in omega arith }

@@ -19,7 +19,7 @@ use Rattle.sql_grammar.specs.Exprs.{Below}
 use Rattle.sql_grammar.specs.Queries.{ItemsEnd, at_comma, at_except, except_end, item_or_except, items_after, items_from, items}
 use Rattle.sql_grammar.proofs.Marks.{AfterOf, after_of}
 use Rattle.sql_grammar.proofs.Follows.{Over, Starts, level, rank}
-use Rattle.sql_grammar.proofs.CompleteSteps.{Read, tok, yes, no_, done, weak, over_s, over_not_s, s_test, after_begins}
+use Rattle.sql_grammar.proofs.CompleteSteps.{Read, tok, then_on, else_on, done, weak, over_s, over_not_s, s_test, after_begins}
 use Rattle.sql_grammar.proofs.CompleteStarts.{postfix_starts, expr_starts}
 use Rattle.sql_grammar.proofs.CompleteRepeats.{One, one, Came, until_stop, until_end, until_next, until_goes, LastApart, last_apart}
 use Rattle.sql_grammar.proofs.CompleteParts.{Reading}
@@ -132,7 +132,7 @@ module _ (n : ℕ) (b : Below) (x : Reading n b) where
 
   after_comma : (t : Token) → Is (sign s.Comma) t → (i : Item Expr) (u rest : Tokens) → ItemOf i u → items_after n b ((t ∷ u) ++ rest) ≡ and_then (item_or_except n b (u ++ rest)) finish
   unfolding items_after
-  after_comma t it i u rest l = tok {n = suc (length (u ++ rest))} it _ (yes (item_comes i u rest l) _ _ done) (omega arith)
+  after_comma t it i u rest l = tok {n = suc (length (u ++ rest))} it _ (then_on (item_comes i u rest l) _ _ done) (omega arith)
 
   items_after_read : Read (suc n) PlainNext (One (AfterOf (sign s.Comma) ItemOf)) (items_after n b)
   items_after_read = record { reads = by }
@@ -179,7 +179,7 @@ module _ (n : ℕ) (b : Below) (x : Reading n b) where
   unfolding items_after
   comma_more i ms v z t it rest f lt =
       let came = goes ms v z (i ∷ []) (t ∷ rest) (comma_plain t rest it.is) lt in
-      let final : items_after n b (t ∷ rest) ≡ taken ([], Some at_comma) rest = tok {n = suc (length rest)} it _ (no_ (no_items_come rest f) _ _ done) (omega arith) in
+      let final : items_after n b (t ∷ rest) ≡ taken ([], Some at_comma) rest = tok {n = suc (length rest)} it _ (else_on (no_items_come rest f) _ _ done) (omega arith) in
       ends_comma (came.is ∙ until_end (sign s.Comma) (items_after n b) came.turns ((i ∷ []) ++ ms) (t ∷ rest) came.room it.is [] at_comma rest final ∙ ap (λ (q : List (Item Expr)). taken (q, Some at_comma) rest) (append-nil (i ∷ ms)))
 
   -- behind the first item

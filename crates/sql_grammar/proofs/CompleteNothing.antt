@@ -26,7 +26,7 @@ use Rattle.sql_grammar.specs.Classes.{class_of, comparison_class, no_comparison}
 use Rattle.sql_grammar.specs.Exprs.{tells, told, Below, Pending, part_next, shift_next, linked, linked_pending, part_or_star, postfix_from, chain_from, pending_from, product_from, sum_from, shift_item, shift_from, band_from, bxor_from, bor_from, compared, compared_by, conjunction_from, disjunction_from, expr_from, expr_after, unary, product, shift, band, bxor, negation, conjunction}
 use Rattle.sql_grammar.proofs.Solid.{solid_basic}
 use Rattle.sql_grammar.proofs.Follows.{Over, Starts, level, is_reserved, is_sign, is_named, is_word}
-use Rattle.sql_grammar.proofs.CompleteSteps.{no_, done, peeked, weak, refute, r_test, s_test, over_not_s, over_not_r, starts_not_s}
+use Rattle.sql_grammar.proofs.CompleteSteps.{apart, else_on, done, peeked, weak, refute, r_test, s_test, over_not_s, over_not_r, starts_not_s}
 use Rattle.sql_grammar.proofs.CompleteStarts.{product_level, sum_level, expr_starts, list_starts, starts_s}
 use Rattle.sql_grammar.proofs.CompleteRepeats.{until_stop}
 use Rattle.sql_grammar.proofs.CompleteLevels.{shift_level}
@@ -37,8 +37,8 @@ use Rattle.sql_grammar.proofs.CompleteTails.{call_function}
 
 many_stop : {A : Type 0} (fits : Token → Bool) (item : Parser A) (m : ℕ) (found : List A) (ts : Tokens) → comes fits ts ≡ false → many fits item m found ts ≡ taken found ts
 unfolding many
-many_stop fits item zero found ts h = no_ {N = Unit {0}} h _ _ done tt
-many_stop fits item (suc m) found ts h = no_ {N = Unit {0}} h _ _ done tt
+many_stop fits item zero found ts h = else_on {N = Unit {0}} h _ _ done tt
+many_stop fits item (suc m) found ts h = else_on {N = Unit {0}} h _ _ done tt
 
 no_level : (fits : Token → Bool) (k : ℕ) → ((t : Token) → fits t ≡ true → level t.lexeme ≡ k) → (ts : Tokens) → Over k ts → comes fits ts ≡ false
 no_level fits k h [] o = refl
@@ -87,19 +87,13 @@ module _ (n : ℕ) (b : Below) (p : ℕ) (ts : Tokens) (f : Over 10 ts) where
 
 -- ---- a bracket that holds something
 
-not_open : {t : Token} {x : Lexeme} → Is (sign s.OpenRound) t → t.lexeme ≡ x → sign_lexeme s.OpenRound x ≡ false → ⊥
-not_open {t} i e h = let g : true ≡ false = sym i.is ∙ ap (sign_lexeme s.OpenRound) e ∙ h in cc
-
-no_literal : (f : Lexeme → Bool) (t : Token) → Is (sign s.OpenRound) t → f (l.Sign s.OpenRound) ≡ false → f t.lexeme ≡ true → ⊥
-no_literal f t i e h = let g : true ≡ false = sym h ∙ ap f (is_sign i) ∙ e in cc
-
 abbrev tells_function : Lexeme → Bool
 tells_function x = elim (function_lexeme x) [ None ↦ false | Some a ↦ true ]
 
 no_items : (ms : List Expr) (d t : Token) (u : Tokens) → Is (sign s.OpenRound) t → ArrayItemsOf ms d (t ∷ u) → ⊥
 unfolding same_sign
-no_items _ _ t _ i (array_empty j k) = not_open i (is_sign {x = s.OpenSquare} j) refl
-no_items _ _ t _ i (array_items j l k) = not_open i (is_sign {x = s.OpenSquare} j) refl
+no_items _ _ t _ i (array_empty j k) = apart (sign_lexeme s.OpenRound) i.is (is_sign {x = s.OpenSquare} j) refl
+no_items _ _ t _ i (array_items j l k) = apart (sign_lexeme s.OpenRound) i.is (is_sign {x = s.OpenSquare} j) refl
 
 pub query_not_close : (q : Query) (v rest : Tokens) → QueryOf q v → comes (sign s.CloseRound) (v ++ rest) ≡ false
 unfolding same_sign
@@ -112,30 +106,30 @@ front v c rest h = ap (comes (sign s.CloseRound)) (append_assoc v (c ∷ []) res
 
 bracket_word : (t : Token) (u : Tokens) (a : Expr) → BasicOf a (t ∷ u) → Is (sign s.OpenRound) t → (rest : Tokens) → comes (sign s.CloseRound) (u ++ rest) ≡ false
 unfolding same_sign
-bracket_word t _ _ (basic_integer i) h rest = absurd (no_literal integer_lexeme t h refl i.is)
-bracket_word t _ _ (basic_string i) h rest = absurd (no_literal text_lexeme t h refl i.is)
-bracket_word t _ _ (basic_bytes i) h rest = absurd (no_literal bytes_lexeme t h refl i.is)
-bracket_word t _ _ (basic_true i) h rest = absurd (not_open h (is_reserved {x = r.True} i) refl)
-bracket_word t _ _ (basic_false i) h rest = absurd (not_open h (is_reserved {x = r.False} i) refl)
-bracket_word t _ _ (basic_null i) h rest = absurd (not_open h (is_reserved {x = r.Null} i) refl)
-bracket_word t _ _ (basic_date i j) h rest = absurd (not_open h ((is_word {x = w.Date} i).is) refl)
-bracket_word t _ _ (basic_parameter i) h rest = absurd (no_literal parameter_lexeme t h refl i.is)
-bracket_word t _ _ (basic_name i) h rest = absurd (not_open h ((is_named i).is) refl)
-bracket_word t _ _ (basic_call {k = k} {u = u} l) h rest = absurd (no_literal tells_function t h refl (call_function t k u l).is)
-bracket_word t _ _ (basic_safe_call i j g k) h rest = absurd (not_open h ((is_word {x = w.Safe} i).is) refl)
-bracket_word t _ _ (basic_case i a b c d j) h rest = absurd (not_open h (is_reserved {x = r.Case} i) refl)
-bracket_word t _ _ (basic_cast i j l g y k) h rest = absurd (not_open h (is_reserved {x = r.Cast} i) refl)
-bracket_word t _ _ (basic_safe_cast i j l g y k) h rest = absurd (not_open h ((is_word {x = w.SafeCast} i).is) refl)
-bracket_word t _ _ (basic_extract i j g k l c) h rest = absurd (not_open h (is_reserved {x = r.Extract} i) refl)
-bracket_word t _ _ (basic_grouping i j l c) h rest = absurd (not_open h (is_reserved {x = r.Grouping} i) refl)
-bracket_word t _ _ (basic_exists i j l c) h rest = absurd (not_open h (is_reserved {x = r.Exists} i) refl)
-bracket_word t _ _ (basic_array_query i j l c) h rest = absurd (not_open h (is_reserved {x = r.Array} i) refl)
+bracket_word t _ _ (basic_integer i) h rest = absurd (apart integer_lexeme i.is (is_sign {x = s.OpenRound} h) refl)
+bracket_word t _ _ (basic_string i) h rest = absurd (apart text_lexeme i.is (is_sign {x = s.OpenRound} h) refl)
+bracket_word t _ _ (basic_bytes i) h rest = absurd (apart bytes_lexeme i.is (is_sign {x = s.OpenRound} h) refl)
+bracket_word t _ _ (basic_true i) h rest = absurd (apart (sign_lexeme s.OpenRound) h.is (is_reserved {x = r.True} i) refl)
+bracket_word t _ _ (basic_false i) h rest = absurd (apart (sign_lexeme s.OpenRound) h.is (is_reserved {x = r.False} i) refl)
+bracket_word t _ _ (basic_null i) h rest = absurd (apart (sign_lexeme s.OpenRound) h.is (is_reserved {x = r.Null} i) refl)
+bracket_word t _ _ (basic_date i j) h rest = absurd (apart (sign_lexeme s.OpenRound) h.is (is_word {x = w.Date} i).is refl)
+bracket_word t _ _ (basic_parameter i) h rest = absurd (apart parameter_lexeme i.is (is_sign {x = s.OpenRound} h) refl)
+bracket_word t _ _ (basic_name i) h rest = absurd (apart (sign_lexeme s.OpenRound) h.is (is_named i).is refl)
+bracket_word t _ _ (basic_call {k = k} {u = u} l) h rest = absurd (apart tells_function (call_function t k u l).is (is_sign {x = s.OpenRound} h) refl)
+bracket_word t _ _ (basic_safe_call i j g k) h rest = absurd (apart (sign_lexeme s.OpenRound) h.is (is_word {x = w.Safe} i).is refl)
+bracket_word t _ _ (basic_case i a b c d j) h rest = absurd (apart (sign_lexeme s.OpenRound) h.is (is_reserved {x = r.Case} i) refl)
+bracket_word t _ _ (basic_cast i j l g y k) h rest = absurd (apart (sign_lexeme s.OpenRound) h.is (is_reserved {x = r.Cast} i) refl)
+bracket_word t _ _ (basic_safe_cast i j l g y k) h rest = absurd (apart (sign_lexeme s.OpenRound) h.is (is_word {x = w.SafeCast} i).is refl)
+bracket_word t _ _ (basic_extract i j g k l c) h rest = absurd (apart (sign_lexeme s.OpenRound) h.is (is_reserved {x = r.Extract} i) refl)
+bracket_word t _ _ (basic_grouping i j l c) h rest = absurd (apart (sign_lexeme s.OpenRound) h.is (is_reserved {x = r.Grouping} i) refl)
+bracket_word t _ _ (basic_exists i j l c) h rest = absurd (apart (sign_lexeme s.OpenRound) h.is (is_reserved {x = r.Exists} i) refl)
+bracket_word t _ _ (basic_array_query i j l c) h rest = absurd (apart (sign_lexeme s.OpenRound) h.is (is_reserved {x = r.Array} i) refl)
 bracket_word t u _ (basic_array {b = d} {ms = ms} l) h rest = absurd (no_items ms d t u h l)
-bracket_word t _ _ (basic_array_word i l) h rest = absurd (not_open h (is_reserved {x = r.Array} i) refl)
-bracket_word t _ _ (basic_array_typed i j y g l) h rest = absurd (not_open h (is_reserved {x = r.Array} i) refl)
-bracket_word t _ _ (basic_struct i j a b c) h rest = absurd (not_open h (is_reserved {x = r.Struct} i) refl)
-bracket_word t _ _ (basic_typed_struct i j f g k l c) h rest = absurd (not_open h (is_reserved {x = r.Struct} i) refl)
-bracket_word t _ _ (basic_with i io l z ik g ic) h rest = absurd (not_open h (is_reserved {x = r.With} i) refl)
+bracket_word t _ _ (basic_array_word i l) h rest = absurd (apart (sign_lexeme s.OpenRound) h.is (is_reserved {x = r.Array} i) refl)
+bracket_word t _ _ (basic_array_typed i j y g l) h rest = absurd (apart (sign_lexeme s.OpenRound) h.is (is_reserved {x = r.Array} i) refl)
+bracket_word t _ _ (basic_struct i j a b c) h rest = absurd (apart (sign_lexeme s.OpenRound) h.is (is_reserved {x = r.Struct} i) refl)
+bracket_word t _ _ (basic_typed_struct i j f g k l c) h rest = absurd (apart (sign_lexeme s.OpenRound) h.is (is_reserved {x = r.Struct} i) refl)
+bracket_word t _ _ (basic_with i io l z ik g ic) h rest = absurd (apart (sign_lexeme s.OpenRound) h.is (is_reserved {x = r.With} i) refl)
 bracket_word t _ _ (basic_group {c = c} {a = a} {v = v} i l g j) h rest = front v c rest (λ r. starts_not_s (expr_starts a v r l) s.CloseRound (omega arith))
 bracket_word t _ _ (basic_query {c = c} {q = q} {v = v} i l j) h rest = front v c rest (λ r. query_not_close q v r l)
 bracket_word t _ _ (basic_tuple {c = c} {a = a} {b = d} {bs = bs} {v = v} i l j) h rest = front v c rest (λ r. starts_not_s (list_starts (a ∷ d ∷ bs) v r l) s.CloseRound (omega arith))

@@ -29,7 +29,7 @@ use Rattle.sql_grammar.proofs.Exprs.{named_word}
 use Rattle.sql_grammar.proofs.Calls.{bracketed_is}
 use Rattle.sql_grammar.proofs.Solid.{solid_basic}
 use Rattle.sql_grammar.proofs.Follows.{Over, Starts, level, rank, is_named, is_word}
-use Rattle.sql_grammar.proofs.CompleteSteps.{Read, Free, Not, less, tok, also, part, last, only, yes, no_, peeked, done, weak, refute, over_s, over_not_s, r_test, s_test, n_test, w_test, to}
+use Rattle.sql_grammar.proofs.CompleteSteps.{Read, Free, Not, less, tok, also, part, last, only, then_on, else_on, peeked, done, weak, refute, over_s, over_not_s, r_test, s_test, n_test, w_test, to}
 use Rattle.sql_grammar.proofs.CompleteStarts.{parts_ahead}
 use Rattle.sql_grammar.proofs.CompleteRepeats.{begun, begun_only, One, one, Gone, GoneTo, gone_to, until_read, until_to_read}
 use Rattle.sql_grammar.proofs.CompleteParts.{Reading, bracketed_read}
@@ -147,7 +147,7 @@ module _ (n : ℕ) (b : Below) (x : Reading n b) (star : Bool) (E : Outcome Toke
     unfolding safe_part same_sign
     safe_by _ _ parts_none g = g
     safe_by _ _ (parts_more {ps = ps} {v = v} (part_index {b = d} {x = y} {o = o} {c = c} {d = k} {v = u} i j io l ic ik) z) g =
-        all_left _ (e.Name (spelled t) t.start) _ ((d ∷ y ∷ o ∷ (u ++ (c ∷ k ∷ []))) ++ v) rest (parts_more (part_index i j io l ic ik) z) (no_ {N = Unit {0}} (s_test s.OpenSquare (sign_lexeme s.Dot) i refl) _ _ done tt)
+        all_left _ (e.Name (spelled t) t.start) _ ((d ∷ y ∷ o ∷ (u ++ (c ∷ k ∷ []))) ++ v) rest (parts_more (part_index i j io l ic ik) z) (else_on {N = Unit {0}} (s_test s.OpenSquare (sign_lexeme s.Dot) i refl) _ _ done tt)
     safe_by _ _ (parts_more {ps = ps} {v = v} (part_field {t = d} {n = k} i j) z) g = inl (record {
       with_it = part_kind.Field (name_at k) ∷ [];
       more = ps;
@@ -155,11 +155,11 @@ module _ (n : ℕ) (b : Below) (x : Reading n b) (star : Bool) (E : Outcome Toke
       parts = z;
       all = refl;
       room = omega arith;
-      is = yes {N = length (d ∷ k ∷ (v ++ rest)) < suc (length (d ∷ k ∷ (v ++ rest)))} i.is _ _ (also i _ (no_ (not_starred star j) _ _ (also j _ (no_ (over_not_s (parts_over ps v z) s.OpenRound (omega arith)) _ _ done)))) (omega arith);
+      is = then_on {N = length (d ∷ k ∷ (v ++ rest)) < suc (length (d ∷ k ∷ (v ++ rest)))} i.is _ _ (also i _ (else_on (not_starred star j) _ _ (also j _ (else_on (over_not_s (parts_over ps v z) s.OpenRound (omega arith)) _ _ done)))) (omega arith);
     })
 
     name_by_kind : (k : NameWord) (ps : List (Part Expr)) (v : Tokens) → PartsOf ps v → Result E (name_by n b star t the_safe rest) (e.Name (spelled t) t.start) [] [] rest → Result E (name_by n b star t k (v ++ rest)) (e.Name (spelled t) t.start) ps v rest
-    name_by_kind the_date ps v z g = all_left _ (e.Name (spelled t) t.start) ps v rest z (no_ {N = Unit {0}} (no_text (v ++ rest) (parts_over ps v z)) _ _ done tt)
+    name_by_kind the_date ps v z g = all_left _ (e.Name (spelled t) t.start) ps v rest z (else_on {N = Unit {0}} (no_text (v ++ rest) (parts_over ps v z)) _ _ done tt)
     name_by_kind the_safe ps v z g = safe_by ps v z g
     name_by_kind plain_name ps v z g = all_left _ (e.Name (spelled t) t.start) ps v rest z refl
 
@@ -170,11 +170,11 @@ module _ (n : ℕ) (b : Below) (x : Reading n b) (star : Bool) (E : Outcome Toke
 
   called_opens : (t : Token) (ts : Tokens) → Is named t → comes (sign s.OpenRound) ts ≡ true → (a : Expr) (rest : Tokens) → called n b t ts ≡ taken a rest → opened n b star (t ∷ ts) ≡ taken (a, ([], None)) rest
   unfolding name_opened
-  called_opens t ts i h a rest e = name_opens t ts i ∙ also {n = suc (length (t ∷ ts))} i _ (yes h _ _ (λ _. ap (λ o. and_then o (λ a. λ ts. taken (a, ([], None)) ts)) e)) (omega arith)
+  called_opens t ts i h a rest e = name_opens t ts i ∙ also {n = suc (length (t ∷ ts))} i _ (then_on h _ _ (λ _. ap (λ o. and_then o (λ a. λ ts. taken (a, ([], None)) ts)) e)) (omega arith)
 
   by_name : (t : Token) (ts : Tokens) → Is named t → comes (sign s.OpenRound) ts ≡ false → opened n b star (t ∷ ts) ≡ name_by n b star t (name_class t.lexeme) ts
   unfolding name_opened
-  by_name t ts i h = name_opens t ts i ∙ also {n = suc (length (t ∷ ts))} i _ (no_ h _ _ done) (omega arith)
+  by_name t ts i h = name_opens t ts i ∙ also {n = suc (length (t ∷ ts))} i _ (else_on h _ _ done) (omega arith)
 
   call_opens : (t : Token) (k : Call Expr) (u : Tokens) → CallOf k (t ∷ u) → (ps : List (Part Expr)) (v : Tokens) → PartsOf ps v → (rest : Tokens) → length ((t ∷ u) ++ (v ++ rest)) < suc n
       → (reserved_lexeme r.If t.lexeme ≡ true) ⊎ (name_lexeme t.lexeme ≡ true) → Result E (opened n b star ((t ∷ u) ++ (v ++ rest))) (e.Call k t.start) ps v rest
@@ -213,7 +213,7 @@ module _ (n : ℕ) (b : Below) (x : Reading n b) (star : Bool) (E : Outcome Toke
   opened_basic _ _ (basic_name {t = t} i) ps v z rest f g lt =
       as_result _ (name_by n b star t (name_class t.lexeme) (v ++ rest)) (e.Name (spelled t) t.start) ps v rest (by_name t (v ++ rest) i (over_not_s (parts_over t rest f ps v z) s.OpenRound (omega arith))) (name_by_kind t rest f (name_class t.lexeme) ps v z (g t))
   opened_basic _ _ (basic_date {t = t} {x = y} i j) ps v z rest f g lt = all_left _ (e.Date (content y) t.start) ps v rest z
-      (by_name t (y ∷ (v ++ rest)) (named_word w.Date t i) (text_not_open y.lexeme j.is) ∙ ap (λ k. name_by n b star t k (y ∷ (v ++ rest))) (w_test w.Date name_class i (λ n. refl)) ∙ yes {N = length (y ∷ (v ++ rest)) < suc n} j.is _ _ (also j _ done) (omega arith))
+      (by_name t (y ∷ (v ++ rest)) (named_word w.Date t i) (text_not_open y.lexeme j.is) ∙ ap (λ k. name_by n b star t k (y ∷ (v ++ rest))) (w_test w.Date name_class i (λ n. refl)) ∙ then_on {N = length (y ∷ (v ++ rest)) < suc n} j.is _ _ (also j _ done) (omega arith))
   opened_basic _ _ (basic_safe_call {t = t} {d = d} {n = m} {k = k} {u = u} i id im l) ps v z rest f g lt = all_left _ (e.SafeCall k t.start) ps v rest z
       (by_name t (d ∷ m ∷ (u ++ (v ++ rest))) (named_word w.Safe t i) (s_test s.Dot (sign_lexeme s.OpenRound) id refl) ∙ ap (λ k. name_by n b star t k (d ∷ m ∷ (u ++ (v ++ rest)))) (w_test w.Safe name_class i (λ n. refl))
-      ∙ yes {N = length (d ∷ m ∷ (u ++ (v ++ rest))) < suc n} id.is _ _ (also id _ (no_ (not_starred star im) _ _ (also im _ (yes (call_open k m u (v ++ rest) l) _ _ (λ lt. ap (λ o. and_then o (λ k. λ ts. taken (e.SafeCall k t.start, ([], None)) ts)) (call_behind n b x m k u l (v ++ rest) (omega arith))))))) (omega arith))
+      ∙ then_on {N = length (d ∷ m ∷ (u ++ (v ++ rest))) < suc n} id.is _ _ (also id _ (else_on (not_starred star im) _ _ (also im _ (then_on (call_open k m u (v ++ rest) l) _ _ (λ lt. ap (λ o. and_then o (λ k. λ ts. taken (e.SafeCall k t.start, ([], None)) ts)) (call_behind n b x m k u l (v ++ rest) (omega arith))))))) (omega arith))

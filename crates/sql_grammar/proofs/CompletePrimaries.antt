@@ -35,7 +35,7 @@ use Rattle.sql_grammar.proofs.Marks.{AfterOf, after_of}
 use Rattle.sql_grammar.proofs.Words.{name_is}
 use Rattle.sql_grammar.proofs.Calls.{bracketed_is}
 use Rattle.sql_grammar.proofs.Follows.{Over, level, is_word}
-use Rattle.sql_grammar.proofs.CompleteSteps.{Read, Free, Not, Comes, less, under, tok, also, part, last, only, yes, no_, peeked, done, weak, over_r, over_s, over_not_r, over_not_s, over_not_w, r_test, s_test, n_test, w_test, after_read, after_begins, over_many, many_read, comma_level, many_ahead, Ahead, nothing_ahead, level_ahead, r_ahead, to, on}
+use Rattle.sql_grammar.proofs.CompleteSteps.{Read, Free, Not, Comes, less, under, tok, also, part, last, only, then_on, else_on, peeked, done, weak, over_r, over_s, over_not_r, over_not_s, over_not_w, r_test, s_test, n_test, w_test, after_read, after_begins, over_many, many_read, comma_level, many_ahead, Ahead, nothing_ahead, level_ahead, r_ahead, to, on}
 use Rattle.sql_grammar.proofs.CompleteWords.{NoAlias, over_no_alias, over_no_from, alias_read, from_alias_read, alias_ahead, from_alias_ahead, name_read, dotted_read, offset_column_read, place_ahead, include_read, unpivot_column_read, comma_column_read, unpivot_commas}
 use Rattle.sql_grammar.proofs.CompleteParts.{Reading, bracketed_read}
 use Rattle.sql_grammar.proofs.CompleteTails.{call_read}
@@ -81,10 +81,6 @@ place_no_alias : (d : Option WithOffset) (u rest : Tokens) → PlaceOf d u → O
 unfolding same_reserved same_word
 place_no_alias _ _ rest place_none h = over_no_from h
 place_no_alias _ _ rest (place_is {t = t} i j l) h = record { no_as = r_test r.With (reserved_lexeme r.As) i refl; no_name = r_test r.With (λ x. elim (word_lexeme w.Pivot x || word_lexeme w.Unpivot x) [ true ↦ false | false ↦ name_lexeme x ]) i refl }
-
-dots_over : (ns : List Name) (v w rest : Tokens) → NameDotsOf ns v → Over 1 (w ++ rest) → Over 0 ((v ++ w) ++ rest)
-dots_over _ _ w rest name_dots_none h = weak (omega arith) h
-dots_over _ _ w rest (name_dots_more i j z) h = over_s s.Dot i (omega arith)
 
 no_dot : {ts : Tokens} → Over 1 ts → Not (sign s.Dot) ts
 no_dot h = record { is = over_not_s h s.Dot (omega arith) }
@@ -165,16 +161,16 @@ module _ (n : ℕ) (b : Below) (x : Reading n b) where
   turned_by_read : (a : Turn Expr) (u : Tokens) → TurnOf a u → (c : Option Name) (v : Tokens) → FromAliasOf c v → (rest : Tokens) → Over 11 rest → length ((u ++ v) ++ rest) < suc n
       → turned n b ((u ++ v) ++ rest) ≡ taken (Some (record { turn = a; alias = c })) rest
   unfolding turned turned_by same_word
-  turned_by_read _ _ (turn_pivot i io k ks ff j d q e x xs g h) c v m rest f = yes i.is _ _ (part pivot_all (turn_by i (turn_pivot i io k ks ff j d q e x xs g h)) v rest _ tt (last (from_alias_read (suc n)) m _ (over_no_from f) done))
-  turned_by_read _ _ (turn_unpivot i k io j ff q d e g h y z) c v m rest f = no_ (w_test w.Unpivot (word_lexeme w.Pivot) i (λ n. refl)) _ _
-      (yes i.is _ _ (part unpivot_all (turn_by i (turn_unpivot i k io j ff q d e g h y z)) v rest _ tt (last (from_alias_read (suc n)) m _ (over_no_from f) done)))
+  turned_by_read _ _ (turn_pivot i io k ks ff j d q e x xs g h) c v m rest f = then_on i.is _ _ (part pivot_all (turn_by i (turn_pivot i io k ks ff j d q e x xs g h)) v rest _ tt (last (from_alias_read (suc n)) m _ (over_no_from f) done))
+  turned_by_read _ _ (turn_unpivot i k io j ff q d e g h y z) c v m rest f = else_on (w_test w.Unpivot (word_lexeme w.Pivot) i (λ n. refl)) _ _
+      (then_on i.is _ _ (part unpivot_all (turn_by i (turn_unpivot i k io j ff q d e g h y z)) v rest _ tt (last (from_alias_read (suc n)) m _ (over_no_from f) done)))
 
   turned_read : Read (suc n) (Over 11) TurnedOf (turned n b)
   unfolding turned
   turned_read = record { reads = by }
     where
       by : {a : Option (Turned Expr)} {u : Tokens} → TurnedOf a u → (rest : Tokens) → Over 11 rest → length (u ++ rest) < suc n → turned n b (u ++ rest) ≡ taken a rest
-      by turned_none rest f = no_ (over_not_w f w.Pivot (omega arith)) _ _ (no_ (over_not_w f w.Unpivot (omega arith)) _ _ done)
+      by turned_none rest f = else_on (over_not_w f w.Pivot (omega arith)) _ _ (else_on (over_not_w f w.Unpivot (omega arith)) _ _ done)
       by (turned_is {x = a} {a = c} {u = u} {v = v} l m) rest f = turned_by_read a u l c v m rest f
 
   -- ---- primaries
@@ -185,13 +181,13 @@ module _ (n : ℕ) (b : Below) (x : Reading n b) where
     where
       by : {a : Primary} {u : Tokens} → PrimaryOf a u → (rest : Tokens) → Over 12 rest → length (u ++ rest) < suc n → primary_item n b (u ++ rest) ≡ taken a rest
       by (primary_table {a = a} {x = y} {u = u} {v = v} i l m) rest f = peeked (class_of no_primary primary_class) (primary_by n b) (n_test primary_class i (λ n o. refl))
-          (tok i _ (no_ (over_not_s {k = 10} (on v rest (from_alias_ahead a u l) (omega arith) (to (turned_ahead y v m) (omega arith) (weak (omega arith) f))) s.Dot (omega arith)) _ _
+          (tok i _ (else_on (over_not_s {k = 10} (on v rest (from_alias_ahead a u l) (omega arith) (to (turned_ahead y v m) (omega arith) (weak (omega arith) f))) s.Dot (omega arith)) _ _
           (part (from_alias_read n) l v rest _ (turned_no_alias y v rest m (weak (omega arith) f)) (last (less turned_read) m _ (weak (omega arith) f) done))))
       by (primary_query {c = c} {a = a} {x = y} {u = u} {v = v} io l ic m k) rest f = peeked (class_of no_primary primary_class) (primary_by n b) (s_test s.OpenRound primary_class io refl)
           (tok io _ (part x.query l (c ∷ (u ++ v)) rest _ (over_s s.CloseRound ic (omega arith)) (also ic _
           (part (from_alias_read n) m v rest _ (turned_no_alias y v rest k (weak (omega arith) f)) (last (less turned_read) k _ (weak (omega arith) f) done)))))
       by (primary_path {n = t} {m = j} {ns = ns} {a = a} {d = d} {u = u} {v = v} {y = y} i id im z l m) rest f = peeked (class_of no_primary primary_class) (primary_by n b) (n_test primary_class i (λ n o. refl))
-          (tok i _ (yes id.is _ _ (also id _ (last (name_read n) (name_is im) _ tt
+          (tok i _ (then_on id.is _ _ (also id _ (last (name_read n) (name_is im) _ tt
           (part (less (dotted_read n (name_at t ∷ name_at j ∷ []))) (ns, z, refl) (u ++ v) rest _ (no_dot (on v rest (from_alias_ahead a u l) (omega arith) (to (place_ahead d v m) (omega arith) (weak (omega arith) f))))
           (part (from_alias_read n) l v rest _ (place_no_alias d v rest m (weak (omega arith) f)) (last (offset_column_read n) m _ f done)))))))
       by (primary_unnest {t = t} {o = o} {c = c} {x = k} {a = a} {d = d} {u = u} {v = v} {y = y} i io l ic m p) rest f =

@@ -28,7 +28,7 @@ use Rattle.sql_grammar.specs.Knot.{below, expr_at, query_at, text_at, written_ty
 use Rattle.sql_grammar.proofs.Marks.{AfterOf, after_of}
 use Rattle.sql_grammar.proofs.Ways.{start_front}
 use Rattle.sql_grammar.proofs.Follows.{Over}
-use Rattle.sql_grammar.proofs.CompleteSteps.{Read, Free, Not, less, tok, also, part, last, only, yes, no_, done, weak, over_end, over_s, over_not_s, r_test, s_test, after_read, after_begins, free_many, Ahead, to}
+use Rattle.sql_grammar.proofs.CompleteSteps.{Read, Free, Not, less, tok, also, part, last, only, then_on, else_on, done, weak, over_end, over_s, over_not_s, r_test, s_test, after_read, after_begins, free_many, Ahead, to}
 use Rattle.sql_grammar.proofs.CompleteRepeats.{begun, begun_only}
 use Rattle.sql_grammar.proofs.CompleteWords.{limit_read, limit_ahead}
 use Rattle.sql_grammar.proofs.CompleteTypes.{whole_type_read}
@@ -158,7 +158,7 @@ module _ (n : ℕ) (b : Below) (x : Reading n b) where
       let long : length (w ++ rest) ≡ length ((p ++ (q ++ (u ++ (v ++ (y ++ z))))) ++ rest) = ap (λ (g : Tokens). length (g ++ rest)) whole in
       ap (λ (g : Tokens). query_with n b t (g ++ rest)) whole
       ∙ with_read_by t d p lp ds q lq a u l kind ms v m ss y ly j z lz rest over (omega arith)
-      ∙ ap (λ (g : ℕ). taken (made g (d ∷ ds) (start_of u) a ms ss j) rest) (ap (λ (g : Token). g.start) (sym same)) ∙ ap (λ (g : ℕ). taken (made k.start (d ∷ ds) g a ms ss j) rest) (sym (start_front u v (solid_term a u l)) ∙ start_front u v (solid_term a u l))
+      ∙ ap (λ (g : ℕ). taken (made g (d ∷ ds) (start_of u) a ms ss j) rest) (ap (λ (g : Token). g.start) (sym same))
 
   -- ---- queries
 
@@ -168,11 +168,11 @@ module _ (n : ℕ) (b : Below) (x : Reading n b) where
       let whole : (u ++ v) ++ (y ++ z) ≡ u ++ (v ++ (y ++ z)) = append_assoc u v (y ++ z) in
       let long : length (((u ++ v) ++ (y ++ z)) ++ rest) ≡ length ((u ++ (v ++ (y ++ z))) ++ rest) = ap (λ (g : Tokens). length (g ++ rest)) whole in
       ap (λ (g : Tokens). query_whole n b (g ++ rest)) whole
-      ∙ no_ {N = Unit {0}} (ap (comes (reserved r.With)) (append_assoc u (v ++ (y ++ z)) rest) ∙ term_not_with a u ((v ++ (y ++ z)) ++ rest) l) _ _
+      ∙ else_on {N = Unit {0}} (ap (comes (reserved r.With)) (append_assoc u (v ++ (y ++ z)) rest) ∙ term_not_with a u ((v ++ (y ++ z)) ++ rest) l) _ _
       (begun {N = Unit {0}} (λ p. query_body n b p []) u (v ++ (y ++ z)) rest (solid_term a u l) (λ _. body_read (start_of u) [] a u l kind ms v m ss y ly j z lz rest over (omega arith))) tt
       ∙ ap (λ (g : ℕ). taken (made g [] (start_of u) a ms ss j) rest) (sym (start_front u v (solid_term a u l)))
   query_by _ _ (query_is (ctes_are {t = t} i lp lq) m ly lz) rest over lt =
-      yes i.is _ _ (tok i _ (λ short. with_by _ _ (query_is (ctes_are i lp lq) m ly lz) t _ refl i rest over (omega arith))) lt
+      then_on i.is _ _ (tok i _ (λ short. with_by _ _ (query_is (ctes_are i lp lq) m ly lz) t _ refl i rest over (omega arith))) lt
 
   pub term_more_by : (a : Term) (p : ℕ) (q : Query) (w : Tokens) → TermMore a p q w → (rest : Tokens) → Over 22 rest → length (w ++ rest) < suc n → query_more n b (term_read a p) (w ++ rest) ≡ taken q rest
   term_more_by a p _ _ (term_more_is {k = k} {ms = ms} {ss = ss} {l = j} {v = v} {x = y} {y = z} m ly lz) rest over lt = no_word p [] p a k ms v m ss y ly j z lz rest over lt
@@ -218,7 +218,7 @@ unfolding text_at
 text_whole n _ _ (text_is {q = q} {u = u} l) lt = ap (λ o. and_then o (λ q. if_comes (sign s.Semicolon) (token (sign s.Semicolon) >>= (λ _. λ ts. taken q ts)) (λ ts. taken q ts))) (query_all n q u l lt)
 text_whole n _ _ (text_semicolon {q = q} {t = t} {u = u} l i) lt =
     ap (λ o. and_then o (λ q. if_comes (sign s.Semicolon) (token (sign s.Semicolon) >>= (λ _. λ ts. taken q ts)) (λ ts. taken q ts))) ((reading n).query.reads l (t ∷ []) (over_s s.Semicolon i (omega arith)) lt)
-    ∙ yes {N = 1 < 2} i.is _ _ (also {n = 2} i _ done) (omega arith)
+    ∙ then_on {N = 1 < 2} i.is _ _ (also {n = 2} i _ done) (omega arith)
 
 -- and a type
 pub type_whole : (n : ℕ) (a : TypeSpelling) (u : Tokens) → TypeOf (suc levels_below) a u → length u < n → written_type_at n u ≡ taken a []

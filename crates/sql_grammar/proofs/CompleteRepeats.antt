@@ -8,7 +8,7 @@ use Rattle.sql_ast.specs.declared.token.Token.{Token}
 use Rattle.sql_ast.specs.Marks.{Tokens, start_of}
 use Rattle.sql_grammar.specs.Ways.{Parser, Ended, until, starting, place_of}
 use Rattle.sql_grammar.proofs.Ways.{start_next}
-use Rattle.sql_grammar.proofs.CompleteSteps.{Read, part, yes, no_, done}
+use Rattle.sql_grammar.proofs.CompleteSteps.{Read, part, then_on, else_on, done}
 
 -- ---- what begins at a place
 
@@ -26,8 +26,8 @@ pub data One {A E : Type 0} (L : Language Token A) : Ended A E → Tokens → Ty
 module _ {A E : Type 0} (fits : Token → Bool) (item : Parser (Ended A E)) where
   pub until_stop : (m : ℕ) (found : List A) (ts : Tokens) → comes fits ts ≡ false → until fits item m found ts ≡ taken (found, None) ts
   unfolding until
-  until_stop zero found ts h = no_ {N = Unit {0}} h _ _ done tt
-  until_stop (suc m) found ts h = no_ {N = Unit {0}} h _ _ done tt
+  until_stop zero found ts h = else_on {N = Unit {0}} h _ _ done tt
+  until_stop (suc m) found ts h = else_on {N = Unit {0}} h _ _ done tt
 
   came : (ts : Tokens) → comes fits ts ≡ true → 1 ≤ length ts
   came [] h = absurd cc
@@ -37,12 +37,12 @@ module _ {A E : Type 0} (fits : Token → Bool) (item : Parser (Ended A E)) wher
       → until fits item m found ts ≡ taken (found ++ xs, Some e) rest
   unfolding until
   until_end zero found ts le h xs e rest is = let g = came ts h in absurd (omega arith)
-  until_end (suc m) found ts le h xs e rest is = yes {N = Unit {0}} h _ _ (λ _. ap (λ o. and_then o (λ x. elim x.1 [ None ↦ until fits item m (found ++ x.0) | Some e ↦ λ ts. taken (found ++ x.0, Some e) ts ])) is) tt
+  until_end (suc m) found ts le h xs e rest is = then_on {N = Unit {0}} h _ _ (λ _. ap (λ o. and_then o (λ x. elim x.1 [ None ↦ until fits item m (found ++ x.0) | Some e ↦ λ ts. taken (found ++ x.0, Some e) ts ])) is) tt
 
   until_one : (m : ℕ) (found : List A) (ts : Tokens) → comes fits ts ≡ true → (xs : List A) (rest : Tokens) → item ts ≡ taken (xs, None) rest
       → until fits item (suc m) found ts ≡ until fits item m (found ++ xs) rest
   unfolding until
-  until_one m found ts h xs rest is = yes {N = Unit {0}} h _ _ (λ _. ap (λ o. and_then o (λ x. elim x.1 [ None ↦ until fits item m (found ++ x.0) | Some e ↦ λ ts. taken (found ++ x.0, Some e) ts ])) is) tt
+  until_one m found ts h xs rest is = then_on {N = Unit {0}} h _ _ (λ _. ap (λ o. and_then o (λ x. elim x.1 [ None ↦ until fits item m (found ++ x.0) | Some e ↦ λ ts. taken (found ++ x.0, Some e) ts ])) is) tt
 
   -- how far it came: what was found, and turns enough for what is left
   pub record Came (from : Outcome Token (Ended A E)) (found : List A) (rest : Tokens) : Type 0 where

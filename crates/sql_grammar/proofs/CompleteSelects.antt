@@ -25,7 +25,7 @@ use Rattle.sql_grammar.specs.Exprs.{Below}
 use Rattle.sql_grammar.specs.Queries.{ItemsEnd, select_of, items, from_part, where_part, group_by, having_part, clauses, select_end, select_or_except, term_or_except}
 use Rattle.sql_grammar.proofs.Marks.{after_of}
 use Rattle.sql_grammar.proofs.Follows.{Over, Starts, sign_rank}
-use Rattle.sql_grammar.proofs.CompleteSteps.{Read, Free, Not, less, tok, also, part, last, only, yes, no_, done, weak, over_s, over_not_r, starts_not_r, r_test, s_test, Ahead, nothing_ahead, r_ahead, to}
+use Rattle.sql_grammar.proofs.CompleteSteps.{Read, Free, Not, less, tok, also, part, last, only, then_on, else_on, done, weak, over_s, over_not_r, starts_not_r, r_test, s_test, Ahead, nothing_ahead, r_ahead, to}
 use Rattle.sql_grammar.proofs.CompleteStarts.{postfix_starts, expr_starts}
 use Rattle.sql_grammar.proofs.CompleteWords.{Neither, select_distinct_read, as_struct_read}
 use Rattle.sql_grammar.proofs.CompleteParts.{Reading, after_read_by}
@@ -90,16 +90,16 @@ module _ (n : ℕ) (b : Below) (x : Reading n b) where
   where_read = record { reads = by }
     where
       by : {a : Option Expr} {u : Tokens} → WhereOf a u → (rest : Tokens) → Over 17 rest → length (u ++ rest) < suc n → where_part n b (u ++ rest) ≡ taken a rest
-      by where_none rest f = no_ (over_not_r f r.Where (omega arith)) _ _ done
-      by (where_is i l) rest f = yes i.is _ _ (last (after_read_by n b x r.Where) (after_of i l) _ (weak (omega arith) f) done)
+      by where_none rest f = else_on (over_not_r f r.Where (omega arith)) _ _ done
+      by (where_is i l) rest f = then_on i.is _ _ (last (after_read_by n b x r.Where) (after_of i l) _ (weak (omega arith) f) done)
 
   having_read : Read (suc n) (Over 19) HavingOf (having_part n b)
   unfolding having_part
   having_read = record { reads = by }
     where
       by : {a : Option (FilterPart Expr)} {u : Tokens} → HavingOf a u → (rest : Tokens) → Over 19 rest → length (u ++ rest) < suc n → having_part n b (u ++ rest) ≡ taken a rest
-      by having_none rest f = no_ (over_not_r f r.Having (omega arith)) _ _ done
-      by (having_is i l) rest f = yes i.is _ _ (tok i _ (last x.inner l _ (weak (omega arith) f) done))
+      by having_none rest f = else_on (over_not_r f r.Having (omega arith)) _ _ done
+      by (having_is i l) rest f = then_on i.is _ _ (tok i _ (last x.inner l _ (weak (omega arith) f) done))
 
   module _ (t : Token) (d c : Bool) (ms : List (Item Expr)) (f : Option FromItem) (z : Tokens) (lz : FromPartOf f z) (a : Option Expr) (m : Tokens) (lm : WhereOf a m) (g : Option (Groups Expr)) (k : Tokens) (lk : GroupByOf g k)
       (h : Option (FilterPart Expr)) (j : Tokens) (lj : HavingOf h j) (rest : Tokens) (over : Over 19 rest) where
@@ -146,10 +146,10 @@ module _ (n : ℕ) (b : Below) (x : Reading n b) where
 
   pub term_by : (a : Term) (u : Tokens) → TermOf a u → (rest : Tokens) → Over 19 rest → NoEdit rest → length (u ++ rest) < suc n → Kept (term_or_except n b (u ++ rest)) a rest
   unfolding term_or_except same_sign
-  term_by _ _ (term_query {o = o} {c = c} io l ic) rest over e lt = inl (yes io.is _ _ (tok io _ (part x.query l (c ∷ []) rest _ (over_s s.CloseRound ic (omega arith)) (also ic _ done))) lt)
+  term_by _ _ (term_query {o = o} {c = c} io l ic) rest over e lt = inl (then_on io.is _ _ (tok io _ (part x.query l (c ∷ []) rest _ (over_s s.CloseRound ic (omega arith)) (also ic _ done))) lt)
   term_by _ _ (term_select {a = a} {u = u} l) rest over e lt =
       kept_as _ (and_then (select_or_except n b (u ++ rest)) (λ x. λ ts. taken (term.Select x.0, x.1) ts)) (term.Select a) rest
-      (no_ {N = Unit {0}} (select_not_open a u rest l) _ _ done tt) (kept_map term.Select (select_or_except n b (u ++ rest)) a rest (select_by a u l rest over e lt))
+      (else_on {N = Unit {0}} (select_not_open a u rest l) _ _ done tt) (kept_map term.Select (select_or_except n b (u ++ rest)) a rest (select_by a u l rest over e lt))
     where
       select_not_open : (a : Select) (u rest : Tokens) → SelectOf a u → comes (sign s.OpenRound) (u ++ rest) ≡ false
       select_not_open _ _ rest (select_is i ld lc li ls lz lm lk lj) = r_test r.Select (sign_lexeme s.OpenRound) i refl

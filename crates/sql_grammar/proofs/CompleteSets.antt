@@ -20,7 +20,7 @@ use Rattle.sql_grammar.specs.Classes.{SetWord, a_union, set_lexeme, set_word_of,
 use Rattle.sql_grammar.specs.Exprs.{tells, told, Below}
 use Rattle.sql_grammar.specs.Queries.{term_or_except, set_next, set_term, set_item, set_terms, set_first, sets_from}
 use Rattle.sql_grammar.proofs.Follows.{Over, level, word_level, is_reserved}
-use Rattle.sql_grammar.proofs.CompleteSteps.{tok, yes, no_, done, weak, refute, over_r, over_not_r, r_test}
+use Rattle.sql_grammar.proofs.CompleteSteps.{tok, then_on, else_on, done, weak, refute, over_r, over_not_r, r_test}
 use Rattle.sql_grammar.proofs.CompleteParts.{Reading}
 use Rattle.sql_grammar.proofs.CompleteHeld.{set_word_level, sets_ahead}
 use Rattle.sql_grammar.proofs.CompleteItems.{NoEdit, KeptBy, Kept, kept_none}
@@ -77,9 +77,6 @@ sets_no_edit k _ _ rest (set_terms_more {t = t} {x = x} {u = u} {v = v} i j l z)
   no_edit = λ e left q g. let is : (x ∷ (u ++ v)) ++ rest ≡ left = cc in ap (comes (sign s.OpenRound)) (sym is) ∙ quantifier_not_open k x j;
 }
 
-sets_over : (k : SetKind) (ms : List (SetTerm Term)) (v rest : Tokens) → SetTermsOf k ms v → Over 20 rest → Over 19 (v ++ rest)
-sets_over k ms v rest z f = (sets_ahead k ms v z).ahead 19 rest (omega arith) (weak (omega arith) f)
-
 module _ (n : ℕ) (b : Below) (x : Reading n b) where
   abbrev set_of : SetKind → Term → Token → SetTerm Term
   set_of k a t = record { kind = k; term = a; place = t.start }
@@ -96,7 +93,7 @@ module _ (n : ℕ) (b : Below) (x : Reading n b) where
   last_term k t a u l rest f lt =
       let g = term_by n b x a u l rest (weak (omega arith) f) (sets_no_edit k [] [] rest set_terms_none f) lt in
       ap (λ o. and_then o (with_next k t)) (kept_none (term_or_except n b (u ++ rest)) a rest (over_not_r f r.Except (omega arith)) g)
-      ∙ ap (λ o. and_then o (λ y. λ ts. taken (set_of k a t, y) ts)) (no_ {N = Unit {0}} (over_not_r f (set_word k) (let e = set_word_level k in omega arith)) _ _ done tt)
+      ∙ ap (λ o. and_then o (λ y. λ ts. taken (set_of k a t, y) ts)) (else_on {N = Unit {0}} (over_not_r f (set_word k) (let e = set_word_level k in omega arith)) _ _ done tt)
 
   -- a term before another set operation
   next_term : (k : SetKind) (t : Token) (a : Term) (u : Tokens) → TermOf a u → (w q : Token) → Is (reserved (set_word k)) w → Is (reserved (set_quantifier k)) q → (rest : Tokens) → length (u ++ (w ∷ q ∷ rest)) < suc n
@@ -109,7 +106,7 @@ module _ (n : ℕ) (b : Below) (x : Reading n b) where
 
       by : Kept (term_or_except n b (u ++ (w ∷ q ∷ rest))) a (w ∷ q ∷ rest) → set_term n b k t (u ++ (w ∷ q ∷ rest)) ≡ taken (set_of k a t, Some w) (q ∷ rest)
       by (inl h) = ap (λ o. and_then o (with_next k t)) h
-          ∙ ap (λ o. and_then o (λ y. λ ts. taken (set_of k a t, y) ts)) (yes {N = length (w ∷ q ∷ rest) < suc (length (w ∷ q ∷ rest))} iw.is _ _ (tok iw _ done) (omega arith))
+          ∙ ap (λ o. and_then o (λ y. λ ts. taken (set_of k a t, y) ts)) (then_on {N = length (w ∷ q ∷ rest) < suc (length (w ∷ q ∷ rest))} iw.is _ _ (tok iw _ done) (omega arith))
       by (inr h) =
           let same : w ≡ h.word = let e = h.is in cc in
           let left : q ∷ rest ≡ h.left = let e = h.is in cc in
@@ -159,12 +156,12 @@ module _ (n : ℕ) (b : Below) (x : Reading n b) where
   -- behind the first word of the first
   first_by : (k : SetKind) (t q : Token) → Is (reserved (set_quantifier k)) q → (w : Tokens) → set_first n b t (q ∷ w) ≡ set_terms n b (set_kind_by (told a_union set_word_of t) (distinct_kind k)) t w
   unfolding set_first distinct_kind same_reserved
-  first_by set.UnionAll t q i w = yes {N = length (q ∷ w) < suc (length (q ∷ w))} i.is _ _ (tok i _ done) (omega arith)
-  first_by set.IntersectAll t q i w = yes {N = length (q ∷ w) < suc (length (q ∷ w))} i.is _ _ (tok i _ done) (omega arith)
-  first_by set.ExceptAll t q i w = yes {N = length (q ∷ w) < suc (length (q ∷ w))} i.is _ _ (tok i _ done) (omega arith)
-  first_by set.UnionDistinct t q i w = no_ {N = length (q ∷ w) < suc (length (q ∷ w))} (r_test r.Distinct (reserved_lexeme r.All) i refl) _ _ (tok i _ done) (omega arith)
-  first_by set.IntersectDistinct t q i w = no_ {N = length (q ∷ w) < suc (length (q ∷ w))} (r_test r.Distinct (reserved_lexeme r.All) i refl) _ _ (tok i _ done) (omega arith)
-  first_by set.ExceptDistinct t q i w = no_ {N = length (q ∷ w) < suc (length (q ∷ w))} (r_test r.Distinct (reserved_lexeme r.All) i refl) _ _ (tok i _ done) (omega arith)
+  first_by set.UnionAll t q i w = then_on {N = length (q ∷ w) < suc (length (q ∷ w))} i.is _ _ (tok i _ done) (omega arith)
+  first_by set.IntersectAll t q i w = then_on {N = length (q ∷ w) < suc (length (q ∷ w))} i.is _ _ (tok i _ done) (omega arith)
+  first_by set.ExceptAll t q i w = then_on {N = length (q ∷ w) < suc (length (q ∷ w))} i.is _ _ (tok i _ done) (omega arith)
+  first_by set.UnionDistinct t q i w = else_on {N = length (q ∷ w) < suc (length (q ∷ w))} (r_test r.Distinct (reserved_lexeme r.All) i refl) _ _ (tok i _ done) (omega arith)
+  first_by set.IntersectDistinct t q i w = else_on {N = length (q ∷ w) < suc (length (q ∷ w))} (r_test r.Distinct (reserved_lexeme r.All) i refl) _ _ (tok i _ done) (omega arith)
+  first_by set.ExceptDistinct t q i w = else_on {N = length (q ∷ w) < suc (length (q ∷ w))} (r_test r.Distinct (reserved_lexeme r.All) i refl) _ _ (tok i _ done) (omega arith)
 
   first_read : (k : SetKind) (t q : Token) → Is (reserved (set_word k)) t → Is (reserved (set_quantifier k)) q → (a : Term) (u : Tokens) → TermOf a u → (ms : List (SetTerm Term)) (v : Tokens) → SetTermsOf k ms v → (rest : Tokens) → Over 20 rest
       → length ((u ++ v) ++ rest) < suc n → set_first n b t ((q ∷ (u ++ v)) ++ rest) ≡ taken (set_of k a t ∷ ms) rest
@@ -172,9 +169,9 @@ module _ (n : ℕ) (b : Below) (x : Reading n b) where
 
   -- where no word was read
   pub sets_none : (k : SetKind) (ms : List (SetTerm Term)) (v : Tokens) → SetTermsOf k ms v → (rest : Tokens) → Over 20 rest → length (v ++ rest) < suc n → sets_from n b None (v ++ rest) ≡ taken ms rest
-  sets_none k _ _ set_terms_none rest f lt = no_ (no_set rest f) _ _ done lt
+  sets_none k _ _ set_terms_none rest f lt = else_on (no_set rest f) _ _ done lt
   sets_none k _ _ (set_terms_more {t = t} {x = q} {a = a} {ms = ms} {u = u} {v = v} i j l z) rest f lt =
-      yes {N = length (t ∷ q ∷ ((u ++ v) ++ rest)) < suc n} (set_word_is k t i) _ _ (tok (record { is = set_word_is k t i }) _ (λ short. first_read k t q i j a u l ms v z rest f (omega arith))) lt
+      then_on {N = length (t ∷ q ∷ ((u ++ v) ++ rest)) < suc n} (set_word_is k t i) _ _ (tok (record { is = set_word_is k t i }) _ (λ short. first_read k t q i j a u l ms v z rest f (omega arith))) lt
 
   -- where the first word was read
   pub sets_some : (k : SetKind) (ms : List (SetTerm Term)) (v : Tokens) → SetTermsOf k ms v → (rest : Tokens) → Over 20 rest → length (v ++ rest) < suc n → (w : Token) (left : Tokens) → v ++ rest ≡ w ∷ left → Is (reserved r.Except) w

@@ -22,7 +22,7 @@ use Rattle.sql_grammar.proofs.Marks.{told_is, tells_is}
 use Rattle.sql_grammar.proofs.Calls.{bracketed_is}
 use Rattle.sql_grammar.proofs.Solid.{solid_basic, solid_postfix}
 use Rattle.sql_grammar.proofs.Follows.{Over, level}
-use Rattle.sql_grammar.proofs.CompleteSteps.{Read, Free, Not, less, tok, also, part, last, only, yes, no_, done, weak, over_s, over_not_s, s_test}
+use Rattle.sql_grammar.proofs.CompleteSteps.{Read, Free, Not, less, tok, also, part, last, only, then_on, else_on, done, weak, over_s, over_not_s, s_test}
 use Rattle.sql_grammar.proofs.CompleteRepeats.{begun, begun_only, One, one, Gone, GoneTo, gone_to, until_read, until_to_read}
 use Rattle.sql_grammar.proofs.CompleteParts.{Reading, bracketed_read}
 use Rattle.sql_grammar.proofs.CompleteHeld.{held_read}
@@ -41,10 +41,10 @@ star_begins k _ _ _ rest (star_final {d = d} i j) = ap (λ c. c || sign s.OpenSq
 module _ (n : ℕ) (b : Below) (x : Reading n b) where
   part_by : (star : Bool) {a : Ended (Part Expr) Token} {u : Tokens} → One PartOf a u → (rest : Tokens) → Unit {0} → length (u ++ rest) < suc n → part_or_star n b star (u ++ rest) ≡ taken a rest
   unfolding part_or_star field_or_star index same_sign
-  part_by star (one (part_field i j)) rest f = yes i.is _ _ (tok i _ (no_ (not_starred star j) _ _ (also j _ done)))
+  part_by star (one (part_field i j)) rest f = then_on i.is _ _ (tok i _ (else_on (not_starred star j) _ _ (also j _ done)))
   part_by star (one (part_index {f = g} {a = a} {b = d} {x = y} {o = o} {c = c} {d = k} {v = v} i j io l ic ik)) rest f =
       subst (λ (w : Tokens). length ((d ∷ y ∷ o ∷ w) ++ rest) < suc n → part_or_star n b star ((d ∷ y ∷ o ∷ w) ++ rest) ≡ taken (part_kind.Index g a d.start ∷ [], None) rest) (append_assoc v (c ∷ []) (k ∷ []))
-      (no_ (s_test s.OpenSquare (sign_lexeme s.Dot) i refl) _ _ (tok i _ (also (record { is = tells_is form.Offset form_of y g j }) _
+      (else_on (s_test s.OpenSquare (sign_lexeme s.Dot) i refl) _ _ (tok i _ (also (record { is = tells_is form.Offset form_of y g j }) _
       (part (less (bracketed_read n b x)) (bracketed_is io l ic) (k ∷ []) rest _ tt (also ik _ (λ _. ap (λ (z : IndexForm). taken (part_kind.Index z a d.start ∷ [], None) rest) (told_is form.Offset form_of y g j)))))))
 
   part_read : (star : Bool) → Read (suc n) Free (One PartOf) (part_or_star n b star)
@@ -52,7 +52,7 @@ module _ (n : ℕ) (b : Below) (x : Reading n b) where
 
   star_ends : (k : Token) (xs : List (Part Expr)) (c : Token) (u : Tokens) → StarFinal k xs c u → (rest : Tokens) → Unit {0} → length (u ++ rest) < suc n → part_or_star n b true (u ++ rest) ≡ taken (xs, Some c) rest
   unfolding part_or_star field_or_star
-  star_ends k _ _ _ (star_final i j) rest f = yes i.is _ _ (tok i _ (yes j.is _ _ (also (record { is = j.is }) _ done)))
+  star_ends k _ _ _ (star_final i j) rest f = then_on i.is _ _ (tok i _ (then_on j.is _ _ (also (record { is = j.is }) _ done)))
 
   parts_read : (star : Bool) (found : List (Part Expr)) → Read (suc n) (Over 1) (Gone PartsOf found) (until part_next (part_or_star n b star) n found)
   parts_read star found = until_read part_next (part_or_star n b star) Free (λ t ts h. tt) part_begins (part_read star) PartsOf many_parts (Over 1) no_part (λ ts h. tt) found
@@ -66,7 +66,7 @@ module _ (n : ℕ) (b : Below) (x : Reading n b) where
   None_else o a ps = ⊥
 
   safe_end : (star : Bool) (rest : Tokens) → Over 1 rest → (t : Token) → Result None_else (name_by n b star t the_safe rest) (e.Name (spelled t) t.start) [] [] rest
-  safe_end star rest f t = inl (record { with_it = []; more = []; left = []; parts = parts_none; all = refl; room = omega arith; is = no_ {N = Unit {0}} (over_not_s f s.Dot (omega arith)) _ _ done tt })
+  safe_end star rest f t = inl (record { with_it = []; more = []; left = []; parts = parts_none; all = refl; room = omega arith; is = else_on {N = Unit {0}} (over_not_s f s.Dot (omega arith)) _ _ done tt })
 
   -- behind what was opened
   plain_by : (star : Bool) (a : Expr) (ps : List (Part Expr)) (p : ℕ) (o : Outcome Token (Expr × Ended (Part Expr) Token)) (v rest : Tokens) → Over 1 rest → length (v ++ rest) < suc n → Result None_else o a ps v rest
@@ -99,7 +99,7 @@ module _ (n : ℕ) (b : Below) (x : Reading n b) where
 
     star_end : length (d ∷ k ∷ rest) < suc n → (t : Token) → Result Star_else (name_by n b true t the_safe (d ∷ k ∷ rest)) (e.Name (spelled t) t.start) [] [] (d ∷ k ∷ rest)
     unfolding safe_part
-    star_end lt t = inr (refl, yes id.is _ _ (also id _ (yes ik.is _ _ (also (record { is = ik.is }) _ done))) lt)
+    star_end lt t = inr (refl, then_on id.is _ _ (also id _ (then_on ik.is _ _ (also (record { is = ik.is }) _ done))) lt)
 
     star_by : (a : Expr) (ps : List (Part Expr)) (p : ℕ) (o : Outcome Token (Expr × Ended (Part Expr) Token)) (v : Tokens) → length (v ++ (d ∷ k ∷ rest)) < suc n → Result Star_else o a ps v (d ∷ k ∷ rest)
         → and_then o (λ x. parts_from n b true p x.0 x.1.0 x.1.1) ≡ taken (path a ps p, Some k) rest

@@ -35,9 +35,6 @@ use Rattle.sql_grammar.proofs.CompleteSteps.{Ahead, nothing_ahead, level_ahead, 
 
 -- ---- the rank of a token
 
-pub starts_at : {k : ℕ} {t : Token} {ts : Tokens} → rank t.lexeme ≤ k → Starts k (t ∷ ts)
-starts_at h = record { starts = h }
-
 pub starts_r : {k : ℕ} {t : Token} {ts : Tokens} (x : Reserved) → Is (reserved x) t → word_rank x ≤ k → Starts k (t ∷ ts)
 starts_r {k} {t} x i le = record { starts = let e : rank t.lexeme ≡ word_rank x = ap rank (is_reserved i) in omega arith }
 
@@ -46,9 +43,6 @@ starts_s {k} {t} x i le = record { starts = let e : rank t.lexeme ≡ sign_rank 
 
 pub starts_n : {k : ℕ} {t : Token} {ts : Tokens} → Is named t → 1 ≤ k → Starts k (t ∷ ts)
 starts_n {k} {t} i le = record { starts = let e : rank t.lexeme ≡ 1 = ap rank (is_named i).is in omega arith }
-
-pub starts_w : {k : ℕ} {t : Token} {ts : Tokens} (x : Word) → Is (word x) t → 1 ≤ k → Starts k (t ∷ ts)
-starts_w {k} {t} x i le = record { starts = let e : rank t.lexeme ≡ 1 = ap rank (is_word i).is in omega arith }
 
 integer_rank : (x : Lexeme) → integer_lexeme x ≡ true → rank x ≡ 1
 integer_rank (l.Integer n) h = refl
@@ -205,9 +199,6 @@ s_level x k e t h = ap level (is_sign {t = t} (record { is = h })) ∙ e
 
 pub r_level : (x : Reserved) (k : ℕ) → level (l.Reserved x) ≡ k → (t : Token) → reserved x t ≡ true → level t.lexeme ≡ k
 r_level x k e t h = ap level (is_reserved {t = t} (record { is = h })) ∙ e
-
-pub tail_ahead : {j : ℕ} (t : Token) (v : Tokens) → level t.lexeme ≡ j → Ahead j (t ∷ v)
-tail_ahead t v e = level_ahead e
 
 pub says_product : {t : Token} {o : Operator} → Says product_of t o → Is (tells product_of) t
 says_product {t} {o} i = record { is = tells_is operator.Multiply product_of t o i }

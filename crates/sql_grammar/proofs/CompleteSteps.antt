@@ -61,11 +61,11 @@ last {A} {B} {n} {F} {L} {p} {a} {u} {rest} {o} x l q f k lt =
 pub only : {A : Type 0} {n : ℕ} {F : Tokens → Type 0} {L : Language Token A} {p : Parser A} {a : A} {u rest : Tokens} → Read n F L p → L a u → F rest → length (u ++ rest) < n → p (u ++ rest) ≡ taken a rest
 only {rest = rest} x l f lt = x.reads l rest f lt
 
-pub yes : {N X : Type 0} {b : Bool} {z : X} → b ≡ true → (x y : X) → (N → x ≡ z) → N → cond b x y ≡ z
-yes h x y k lt = ap (λ c. cond c x y) h ∙ k lt
+pub then_on : {N X : Type 0} {b : Bool} {z : X} → b ≡ true → (x y : X) → (N → x ≡ z) → N → cond b x y ≡ z
+then_on h x y k lt = ap (λ c. cond c x y) h ∙ k lt
 
-pub no_ : {N X : Type 0} {b : Bool} {z : X} → b ≡ false → (x y : X) → (N → y ≡ z) → N → cond b x y ≡ z
-no_ h x y k lt = ap (λ c. cond c x y) h ∙ k lt
+pub else_on : {N X : Type 0} {b : Bool} {z : X} → b ≡ false → (x y : X) → (N → y ≡ z) → N → cond b x y ≡ z
+else_on h x y k lt = ap (λ c. cond c x y) h ∙ k lt
 
 pub peeked : {B K N : Type 0} (key : Option Token → K) (f : K → Parser B) {ts : Tokens} {k : K} {o : Outcome Token B} → key (next ts) ≡ k → (N → f k ts ≡ o) → N → and_then (peek key ts) f ≡ o
 peeked key f {ts} e h lt = ap (λ k. f k ts) e ∙ h lt
@@ -121,9 +121,6 @@ over_s {k} {t} x i lt = record { over = let e : level t.lexeme ≡ sign_level x 
 
 pub over_n : {k : ℕ} {t : Token} {ts : Tokens} → Is named t → k < 11 → Over k (t ∷ ts)
 over_n {k} {t} i lt = record { over = let e : level t.lexeme ≡ 11 = ap level (is_named i).is in omega arith }
-
-pub over_w : {k : ℕ} {t : Token} {ts : Tokens} (x : Word) → Is (word x) t → k < 11 → Over k (t ∷ ts)
-over_w {k} {t} x i lt = record { over = let e : level t.lexeme ≡ 11 = ap level (is_word i).is in omega arith }
 
 -- what a test says of a token that is known
 pub r_test : {t : Token} {X : Type 0} {b : X} (x : Reserved) (f : Lexeme → X) → Is (reserved x) t → f (l.Reserved x) ≡ b → f t.lexeme ≡ b
@@ -190,15 +187,15 @@ module _ {A : Type 0} (E F : Tokens → Type 0) (n : ℕ) (L : Language Token A)
   many_by : {ls : List A} {v : Tokens} → Many L ls v → (m : ℕ) (found : List A) (rest : Tokens) → E rest → length (v ++ rest) ≤ m → length (v ++ rest) < suc n
       → many fits item m found (v ++ rest) ≡ taken (found ++ ls) rest
   unfolding many
-  many_by many_none zero found rest h le lt = no_ (stops rest h) _ _ (λ _. ap (λ (b : List A). taken b rest) (sym (append-nil found))) lt
-  many_by many_none (suc m) found rest h le lt = no_ (stops rest h) _ _ (λ _. ap (λ (b : List A). taken b rest) (sym (append-nil found))) lt
+  many_by many_none zero found rest h le lt = else_on (stops rest h) _ _ (λ _. ap (λ (b : List A). taken b rest) (sym (append-nil found))) lt
+  many_by many_none (suc m) found rest h le lt = else_on (stops rest h) _ _ (λ _. ap (λ (b : List A). taken b rest) (sym (append-nil found))) lt
   many_by (many_more {a = a} {u = u} {ls = ls} {v = v} l s) zero found rest h le lt =
       let g = solid a u l in let e = length-append (u ++ v) rest in let f = length-append u v in absurd (omega arith)
   many_by (many_more {a = a} {u = u} {ls = ls} {v = v} l s) (suc m) found rest h le lt =
       let g = solid a u l in
       let e : length ((u ++ v) ++ rest) ≡ length (u ++ (v ++ rest)) = ap length (append_assoc u v rest) in
       let f = length-append u (v ++ rest) in
-      yes (ap (comes fits) (append_assoc u v rest) ∙ begins a u (v ++ rest) l) _ _
+      then_on (ap (comes fits) (append_assoc u v rest) ∙ begins a u (v ++ rest) l) _ _
       (part x l v rest _ (many_follows rest s h) (λ lt. many_by s m (found ++ a ∷ []) rest h (omega arith) lt ∙ ap (λ (b : List A). taken b rest) (append_assoc found (a ∷ []) ls))) lt
 
   pub many_read : {LS : Language Token (List A)} (found : List A) → ((ls : List A) (v : Tokens) → LS ls v → Many L ls v) → Read (suc n) E (Found LS found) (many fits item n found)
@@ -265,3 +262,7 @@ comes_r_over (t ∷ ts) x h lt = over_r {t = t} x (record { is = h.is }) lt
 pub comes_r_not : (ts : Tokens) (x y : Reserved) → Comes (reserved x) ts → same_reserved y x ≡ false → comes (reserved y) ts ≡ false
 comes_r_not [] x y h e = refl
 comes_r_not (t ∷ ts) x y h e = r_test {t = t} x (reserved_lexeme y) (record { is = h.is }) e
+
+-- a lexeme that a test takes is none that it does not take
+pub apart : {x y : Lexeme} (f : Lexeme → Bool) → f y ≡ true → y ≡ x → f x ≡ false → ⊥
+apart f h e n = let g : true ≡ false = sym h ∙ ap f e ∙ n in cc

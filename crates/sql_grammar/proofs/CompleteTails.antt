@@ -28,8 +28,8 @@ use Rattle.sql_grammar.specs.Classes.{class_of, arguments_lexeme, ArgumentsStart
 use Rattle.sql_grammar.specs.Exprs.{tells, told, Below, arguments, argument, arguments_from, call_tail, call_body, call_of, call, cast_end, call_from, cast_or_call, safe_cast_by, safe_cast, called}
 use Rattle.sql_grammar.proofs.Marks.{told_is, tells_is, AfterOf, after_of}
 use Rattle.sql_grammar.proofs.Follows.{Over, Starts}
-use Rattle.sql_grammar.proofs.CompleteSteps.{Read, Free, Not, less, under, tok, also, part, last, only, yes, no_, peeked, done, weak, over_r, over_s, over_not_r, over_not_s, r_test, s_test, after_read, to, on}
-use Rattle.sql_grammar.proofs.CompleteWords.{distinct_read, nulls_part_read, nulls_part_ahead, call_limit_read, call_limit_ahead}
+use Rattle.sql_grammar.proofs.CompleteSteps.{Read, Free, Not, less, under, tok, also, part, last, only, then_on, else_on, peeked, done, weak, over_r, over_s, over_not_r, over_not_s, r_test, s_test, after_read, to, on}
+use Rattle.sql_grammar.proofs.CompleteWords.{distinct_read, nulls_part_read, call_limit_read, call_limit_ahead}
 use Rattle.sql_grammar.proofs.CompleteTypes.{whole_type_read}
 use Rattle.sql_grammar.proofs.CompleteParts.{Reading}
 use Rattle.sql_grammar.proofs.CompleteCalls.{order_read, order_ahead, ArgEnds, Ends, ends_over, ArgStarts, arg_starts, args_ahead, args_arg_ends, argument_read, arguments_from_read, arguments_read, Args, args_are, ends_not_distinct}
@@ -134,21 +134,21 @@ module _ (n : ℕ) (b : Below) (x : Reading n b) where
 
   -- no cast where AS doesn't follow
   no_cast : (t : Token) (a : Arg Expr) (ts : Tokens) → comes (reserved r.As) ts ≡ false → cast_or_call n b t a ts ≡ call_from n b t a ts
-  no_cast t (arg.Expr a) ts h = no_ {N = Unit {0}} h _ _ done tt
+  no_cast t (arg.Expr a) ts h = else_on {N = Unit {0}} h _ _ done tt
   no_cast t (arg.Lambda ns a p) ts h = refl
   no_cast t (arg.Interval a m p) ts h = refl
 
   safe_call_read : (t : Token) (d star : Bool) (ms : List (Arg Expr)) (k : Call Expr) (u v w : Tokens) → DistinctOf d u → ArgumentsOf star ms v → TailOf t d star ms k w → (rest : Tokens) → length ((u ++ (v ++ w)) ++ rest) < n
       → safe_cast n b t ((u ++ (v ++ w)) ++ rest) ≡ taken (e.Call k t.start) rest
   unfolding safe_cast
-  safe_call_read t _ star ms k _ v w (distinct_is i) l z rest = yes i.is _ _ (last (call_body_read t) (body_is (distinct_is i) l z) _ tt done)
-  safe_call_read t _ _ _ k _ _ w distinct_none arguments_none z rest = no_ (no_distinct false [] [] w rest arguments_none (tail_ends t false false [] k w rest z)) _ _
+  safe_call_read t _ star ms k _ v w (distinct_is i) l z rest = then_on i.is _ _ (last (call_body_read t) (body_is (distinct_is i) l z) _ tt done)
+  safe_call_read t _ _ _ k _ _ w distinct_none arguments_none z rest = else_on (no_distinct false [] [] w rest arguments_none (tail_ends t false false [] k w rest z)) _ _
       (peeked (class_of by_arg arguments_lexeme) (safe_cast_by n b t) (tail_ends t false false [] k w rest z).is (last (call_body_read t) (body_is distinct_none arguments_none z) _ tt done))
-  safe_call_read t _ _ _ k _ _ w distinct_none (arguments_star {t = j} i) z rest = no_ (no_distinct true [] (j ∷ []) w rest (arguments_star i) (tail_ends t false true [] k w rest z)) _ _
+  safe_call_read t _ _ _ k _ _ w distinct_none (arguments_star {t = j} i) z rest = else_on (no_distinct true [] (j ∷ []) w rest (arguments_star i) (tail_ends t false true [] k w rest z)) _ _
       (peeked (class_of by_arg arguments_lexeme) (safe_cast_by n b t) (s_test s.Star arguments_lexeme i refl) (last (call_body_read t) (body_is distinct_none (arguments_star i) z) _ tt done))
   safe_call_read t _ _ _ k _ _ w distinct_none (arguments_are {a = a} {ms = ms} {u = u} {v = v} l z) g rest =
       let h = tail_ends t false false (a ∷ ms) k w rest g in
-      no_ (no_distinct false (a ∷ ms) (u ++ v) w rest (arguments_are l z) h) _ _
+      else_on (no_distinct false (a ∷ ms) (u ++ v) w rest (arguments_are l z) h) _ _
       (peeked (class_of by_arg arguments_lexeme) (safe_cast_by n b t)
       (subst (λ (q : Tokens). class_of by_arg arguments_lexeme (next q) ≡ by_arg) (sym (ap (λ (q : Tokens). q ++ rest) (append_assoc u v w) ∙ append_assoc u (v ++ w) rest)) (arg_starts a u ((v ++ w) ++ rest) l).is)
       (subst (λ (q : Tokens). length (q ++ rest) < n → (argument n b >>= cast_or_call n b t) (q ++ rest) ≡ taken (e.Call k t.start) rest) (sym (append_assoc u v w))
@@ -186,6 +186,6 @@ module _ (n : ℕ) (b : Below) (x : Reading n b) where
       at = subst ArgStarts (sym (append_assoc u (y ∷ (v ++ (c ∷ []))) rest)) starts
 
       cast : length ((u ++ (y ∷ (v ++ (c ∷ [])))) ++ rest) < n → safe_cast n b t ((u ++ (y ∷ (v ++ (c ∷ [])))) ++ rest) ≡ taken (e.Cast true a z t.start) rest
-      cast = no_ at.no_distinct _ _ (peeked (class_of by_arg arguments_lexeme) (safe_cast_by n b t) at.is
+      cast = else_on at.no_distinct _ _ (peeked (class_of by_arg arguments_lexeme) (safe_cast_by n b t) at.is
           (part (argument_read n b x) (arg_expr l) (y ∷ (v ++ (c ∷ []))) rest (cast_or_call n b t) (record { over = over_r r.As iy (omega arith); no_arrow = r_test r.As (sign_lexeme s.Arrow) iy refl })
-          (yes iy.is _ _ (only (less (cast_end_read true t.start a)) (cast_ends iy lz ic) tt))))
+          (then_on iy.is _ _ (only (less (cast_end_read true t.start a)) (cast_ends iy lz ic) tt))))

@@ -17,7 +17,7 @@ use Rattle.sql_grammar.specs.Classes.{class_of, TypeStart, a_type_name, an_array
 use Rattle.sql_grammar.specs.Words.{type_name, field, comma_field, fields_closed, array_type, struct_type, type_by, starts_type, type_at, whole_type, levels_below}
 use Rattle.sql_grammar.proofs.Marks.{AfterOf, after_of}
 use Rattle.sql_grammar.proofs.Words.{ClosedOf, closed_fields}
-use Rattle.sql_grammar.proofs.CompleteSteps.{Read, Free, Not, Comes, less, under, tok, also, part, last, only, yes, no_, peeked, done, r_test, s_test, n_test, after_read, after_begins, many_read}
+use Rattle.sql_grammar.proofs.CompleteSteps.{Read, Free, Not, Comes, less, under, tok, also, part, last, only, then_on, else_on, peeked, done, r_test, s_test, n_test, after_read, after_begins, many_read}
 
 -- a type begins with a token that the test of its level takes
 type_begins : (k : ℕ) (x : TypeSpelling) (u rest : Tokens) → TypeOf (suc k) x u → comes (starts_type k) (u ++ rest) ≡ true
@@ -55,9 +55,9 @@ type_name_read n = record { reads = by }
 unnamed : (n k : ℕ) (starts : Token → Bool) (inner : Parser TypeSpelling) → Read n Free (TypeOf k) inner → (y : TypeSpelling) (u : Tokens) → TypeOf k y u → (rest : Tokens) → Not starts rest → length (u ++ rest) < n
     → field n starts inner (u ++ rest) ≡ taken (record { name = None; ty = y }) rest
 unfolding field
-unnamed n _ starts inner x _ _ (is_type_name i) rest f = yes i.is _ _ (also i _ (no_ f.is _ _ done))
-unnamed n _ starts inner x _ _ (type_array i io y ic) rest f = no_ (r_test r.Array name_lexeme i refl) _ _ (last x (type_array i io y ic) _ tt done)
-unnamed n _ starts inner x _ _ (type_struct i io y ic) rest f = no_ (r_test r.Struct name_lexeme i refl) _ _ (last x (type_struct i io y ic) _ tt done)
+unnamed n _ starts inner x _ _ (is_type_name i) rest f = then_on i.is _ _ (also i _ (else_on f.is _ _ done))
+unnamed n _ starts inner x _ _ (type_array i io y ic) rest f = else_on (r_test r.Array name_lexeme i refl) _ _ (last x (type_array i io y ic) _ tt done)
+unnamed n _ starts inner x _ _ (type_struct i io y ic) rest f = else_on (r_test r.Struct name_lexeme i refl) _ _ (last x (type_struct i io y ic) _ tt done)
 
 module _ (n k : ℕ) (inner : Parser TypeSpelling) (x : Read n Free (TypeOf (suc k)) inner) where
   field_read : Read n (Not (starts_type k)) (FieldOf (suc k)) (field n (starts_type k) inner)
@@ -66,7 +66,7 @@ module _ (n k : ℕ) (inner : Parser TypeSpelling) (x : Read n Free (TypeOf (suc
     where
       by : {a : TypeField TypeSpelling} {u : Tokens} → FieldOf (suc k) a u → (rest : Tokens) → Not (starts_type k) rest → length (u ++ rest) < n → field n (starts_type k) inner (u ++ rest) ≡ taken a rest
       by (field_unnamed {x = y} {u = u} l) rest f = unnamed n (suc k) (starts_type k) inner x y u l rest f
-      by (field_named {u = u} i y) rest f = yes i.is _ _ (also i _ (yes (type_begins k _ u rest y) _ _ (last x y _ tt done)))
+      by (field_named {u = u} i y) rest f = then_on i.is _ _ (also i _ (then_on (type_begins k _ u rest y) _ _ (last x y _ tt done)))
 
   comma_field_read : Read (suc n) (Not (starts_type k)) (AfterOf (sign s.Comma) (FieldOf (suc k))) (comma_field n (starts_type k) inner)
   unfolding comma_field

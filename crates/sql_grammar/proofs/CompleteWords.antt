@@ -26,7 +26,7 @@ use Rattle.sql_grammar.specs.Words.{name, after_as, alias_of, comma_name, dot_na
 use Rattle.sql_grammar.proofs.Marks.{AfterOf, after_of}
 use Rattle.sql_grammar.proofs.Words.{NameIs, name_is}
 use Rattle.sql_grammar.proofs.Follows.{Over, level, is_named, is_reserved}
-use Rattle.sql_grammar.proofs.CompleteSteps.{Read, Free, Not, Comes, less, tok, also, part, last, only, yes, no_, done, refute, over_not_r, over_not_s, over_not_n, over_not_w, weak, r_test, s_test, n_test, w_test, after_read, after_begins, free_many, Ahead, nothing_ahead, r_ahead, level_ahead}
+use Rattle.sql_grammar.proofs.CompleteSteps.{Read, Free, Not, Comes, less, tok, also, part, last, only, then_on, else_on, done, refute, over_not_r, over_not_s, over_not_n, over_not_w, weak, r_test, s_test, n_test, w_test, after_read, after_begins, free_many, Ahead, nothing_ahead, r_ahead, level_ahead}
 
 -- ---- aliases
 
@@ -60,18 +60,18 @@ unfolding alias_of after_as
 alias_read n = record { reads = by }
   where
     by : {a : Option Name} {u : Tokens} → AliasOf a u → (rest : Tokens) → NoAlias named rest → length (u ++ rest) < n → alias_of named (u ++ rest) ≡ taken a rest
-    by alias_none rest f = no_ f.no_as _ _ (no_ f.no_name _ _ done)
-    by (alias_name i) rest f = no_ (named_not_r r.As i) _ _ (yes i.is _ _ (also i _ done))
-    by (alias_as i j) rest f = yes i.is _ _ (also i _ (also j _ done))
+    by alias_none rest f = else_on f.no_as _ _ (else_on f.no_name _ _ done)
+    by (alias_name i) rest f = else_on (named_not_r r.As i) _ _ (then_on i.is _ _ (also i _ done))
+    by (alias_as i j) rest f = then_on i.is _ _ (also i _ (also j _ done))
 
 pub from_alias_read : (n : ℕ) → Read n (NoAlias from_alias) FromAliasOf (alias_of from_alias)
 unfolding alias_of after_as
 from_alias_read n = record { reads = by }
   where
     by : {a : Option Name} {u : Tokens} → FromAliasOf a u → (rest : Tokens) → NoAlias from_alias rest → length (u ++ rest) < n → alias_of from_alias (u ++ rest) ≡ taken a rest
-    by from_alias_none rest f = no_ f.no_as _ _ (no_ f.no_name _ _ done)
-    by (from_alias_name i) rest f = no_ (named_not_r r.As (from_alias_is_named i)) _ _ (yes i.is _ _ (also i _ done))
-    by (from_alias_as i j) rest f = yes i.is _ _ (also i _ (also j _ done))
+    by from_alias_none rest f = else_on f.no_as _ _ (else_on f.no_name _ _ done)
+    by (from_alias_name i) rest f = else_on (named_not_r r.As (from_alias_is_named i)) _ _ (then_on i.is _ _ (also i _ done))
+    by (from_alias_as i j) rest f = then_on i.is _ _ (also i _ (also j _ done))
 
 pub alias_ahead : (a : Option Name) (u : Tokens) → AliasOf a u → Ahead 11 u
 alias_ahead _ _ alias_none = nothing_ahead
@@ -127,8 +127,8 @@ unfolding offset_column
 offset_column_read n = record { reads = by }
   where
     by : {a : Option WithOffset} {u : Tokens} → PlaceOf a u → (rest : Tokens) → Over 12 rest → length (u ++ rest) < n → offset_column (u ++ rest) ≡ taken a rest
-    by place_none rest f = no_ (over_not_r f r.With (omega arith)) _ _ done
-    by (place_is i j l) rest f = yes i.is _ _ (also i _ (also j _ (last (from_alias_read n) l _ (over_no_from (weak (omega arith) f)) done)))
+    by place_none rest f = else_on (over_not_r f r.With (omega arith)) _ _ done
+    by (place_is i j l) rest f = then_on i.is _ _ (also i _ (also j _ (last (from_alias_read n) l _ (over_no_from (weak (omega arith) f)) done)))
 
 pub place_ahead : (a : Option WithOffset) (u : Tokens) → PlaceOf a u → Ahead 12 u
 place_ahead _ _ place_none = nothing_ahead
@@ -139,8 +139,8 @@ unfolding unpivot_column
 unpivot_column_read n = record { reads = by }
   where
     by : {a : UnpivotColumn} {u : Tokens} → UnpivotColumnOf a u → (rest : Tokens) → Not (reserved r.As) rest → length (u ++ rest) < n → unpivot_column (u ++ rest) ≡ taken a rest
-    by (column_plain i) rest f = also i _ (no_ f.is _ _ done)
-    by (column_as i j k) rest f = also i _ (yes j.is _ _ (also j _ (also k _ done)))
+    by (column_plain i) rest f = also i _ (else_on f.is _ _ done)
+    by (column_as i j k) rest f = also i _ (then_on j.is _ _ (also j _ (also k _ done)))
 
 pub comma_column_read : (n : ℕ) → Read (suc n) (Not (reserved r.As)) (AfterOf (sign s.Comma) UnpivotColumnOf) comma_column
 unfolding comma_column
@@ -159,17 +159,17 @@ unfolding include same_reserved
 include_read n = record { reads = by }
   where
     by : {a : Bool} {u : Tokens} → IncludeOf a u → (rest : Tokens) → Comes (sign s.OpenRound) rest → length (u ++ rest) < n → include (u ++ rest) ≡ taken a rest
-    by include_none rest f = let g = bracket_not rest f in no_ g.0 _ _ (no_ g.1 _ _ done)
-    by (include_nulls i j) rest f = yes i.is _ _ (also i _ (also j _ done))
-    by (exclude_nulls i j) rest f = no_ (r_test r.Exclude (word_lexeme w.Include) i refl) _ _ (yes i.is _ _ (also i _ (also j _ done)))
+    by include_none rest f = let g = bracket_not rest f in else_on g.0 _ _ (else_on g.1 _ _ done)
+    by (include_nulls i j) rest f = then_on i.is _ _ (also i _ (also j _ done))
+    by (exclude_nulls i j) rest f = else_on (r_test r.Exclude (word_lexeme w.Include) i refl) _ _ (then_on i.is _ _ (also i _ (also j _ done)))
 
 pub distinct_read : (n : ℕ) → Read n (Not (reserved r.Distinct)) DistinctOf distinct
 unfolding distinct
 distinct_read n = record { reads = by }
   where
     by : {a : Bool} {u : Tokens} → DistinctOf a u → (rest : Tokens) → Not (reserved r.Distinct) rest → length (u ++ rest) < n → distinct (u ++ rest) ≡ taken a rest
-    by distinct_none rest f = no_ f.is _ _ done
-    by (distinct_is i) rest f = yes i.is _ _ (also i _ done)
+    by distinct_none rest f = else_on f.is _ _ done
+    by (distinct_is i) rest f = then_on i.is _ _ (also i _ done)
 
 -- neither of two words comes next
 pub record Neither (x y : Reserved) (ts : Tokens) : Type 0 where
@@ -181,26 +181,26 @@ unfolding select_distinct distinct same_reserved
 select_distinct_read n = record { reads = by }
   where
     by : {a : Bool} {u : Tokens} → SelectDistinctOf a u → (rest : Tokens) → Neither r.All r.Distinct rest → length (u ++ rest) < n → select_distinct (u ++ rest) ≡ taken a rest
-    by select_none rest f = no_ f.first _ _ (no_ f.second _ _ done)
-    by (select_all i) rest f = yes i.is _ _ (also i _ done)
-    by (is_select_distinct i) rest f = no_ (r_test r.Distinct (reserved_lexeme r.All) i refl) _ _ (yes i.is _ _ (also i _ done))
+    by select_none rest f = else_on f.first _ _ (else_on f.second _ _ done)
+    by (select_all i) rest f = then_on i.is _ _ (also i _ done)
+    by (is_select_distinct i) rest f = else_on (r_test r.Distinct (reserved_lexeme r.All) i refl) _ _ (then_on i.is _ _ (also i _ done))
 
 pub as_struct_read : (n : ℕ) → Read n (Not (reserved r.As)) AsStructOf as_struct
 unfolding as_struct
 as_struct_read n = record { reads = by }
   where
     by : {a : Bool} {u : Tokens} → AsStructOf a u → (rest : Tokens) → Not (reserved r.As) rest → length (u ++ rest) < n → as_struct (u ++ rest) ≡ taken a rest
-    by as_struct_none rest f = no_ f.is _ _ done
-    by (as_struct_is i j) rest f = yes i.is _ _ (also i _ (also j _ done))
+    by as_struct_none rest f = else_on f.is _ _ done
+    by (as_struct_is i j) rest f = then_on i.is _ _ (also i _ (also j _ done))
 
 pub direction_read : (n : ℕ) → Read n (Over 13) DirectionOf direction
 unfolding direction same_reserved
 direction_read n = record { reads = by }
   where
     by : {a : Bool} {u : Tokens} → DirectionOf a u → (rest : Tokens) → Over 13 rest → length (u ++ rest) < n → direction (u ++ rest) ≡ taken a rest
-    by direction_none rest f = no_ (over_not_r f r.Asc (omega arith)) _ _ (no_ (over_not_r f r.Desc (omega arith)) _ _ done)
-    by (direction_asc i) rest f = yes i.is _ _ (also i _ done)
-    by (direction_desc i) rest f = no_ (r_test r.Desc (reserved_lexeme r.Asc) i refl) _ _ (yes i.is _ _ (also i _ done))
+    by direction_none rest f = else_on (over_not_r f r.Asc (omega arith)) _ _ (else_on (over_not_r f r.Desc (omega arith)) _ _ done)
+    by (direction_asc i) rest f = then_on i.is _ _ (also i _ done)
+    by (direction_desc i) rest f = else_on (r_test r.Desc (reserved_lexeme r.Asc) i refl) _ _ (then_on i.is _ _ (also i _ done))
 
 pub direction_ahead : (a : Bool) (u : Tokens) → DirectionOf a u → Ahead 13 u
 direction_ahead _ _ direction_none = nothing_ahead
@@ -212,9 +212,9 @@ unfolding nulls_place same_word
 nulls_place_read n = record { reads = by }
   where
     by : {a : Option NullsPlace} {u : Tokens} → NullsPlaceOf a u → (rest : Tokens) → Over 14 rest → length (u ++ rest) < n → nulls_place (u ++ rest) ≡ taken a rest
-    by nulls_none rest f = no_ (over_not_r f r.Nulls (omega arith)) _ _ done
-    by (nulls_first i j) rest f = yes i.is _ _ (also i _ (yes j.is _ _ (also j _ done)))
-    by (nulls_last i j) rest f = yes i.is _ _ (also i _ (no_ (w_test w.Last (word_lexeme w.First) j (λ n. refl)) _ _ (also j _ done)))
+    by nulls_none rest f = else_on (over_not_r f r.Nulls (omega arith)) _ _ done
+    by (nulls_first i j) rest f = then_on i.is _ _ (also i _ (then_on j.is _ _ (also j _ done)))
+    by (nulls_last i j) rest f = then_on i.is _ _ (also i _ (else_on (w_test w.Last (word_lexeme w.First) j (λ n. refl)) _ _ (also j _ done)))
 
 pub nulls_place_ahead : (a : Option NullsPlace) (u : Tokens) → NullsPlaceOf a u → Ahead 14 u
 nulls_place_ahead _ _ nulls_none = nothing_ahead
@@ -226,14 +226,9 @@ unfolding nulls_part same_reserved
 nulls_part_read n = record { reads = by }
   where
     by : {a : Option NullsPart} {u : Tokens} → NullsPartOf a u → (rest : Tokens) → Over 18 rest → length (u ++ rest) < n → nulls_part (u ++ rest) ≡ taken a rest
-    by nulls_part_none rest f = no_ (over_not_r f r.Ignore (omega arith)) _ _ (no_ (over_not_r f r.Respect (omega arith)) _ _ done)
-    by (nulls_ignore i j) rest f = yes i.is _ _ (also i _ (also j _ done))
-    by (nulls_respect i j) rest f = no_ (r_test r.Respect (reserved_lexeme r.Ignore) i refl) _ _ (yes i.is _ _ (also i _ (also j _ done)))
-
-pub nulls_part_ahead : (a : Option NullsPart) (u : Tokens) → NullsPartOf a u → Ahead 18 u
-nulls_part_ahead _ _ nulls_part_none = nothing_ahead
-nulls_part_ahead _ _ (nulls_ignore i j) = r_ahead r.Ignore i
-nulls_part_ahead _ _ (nulls_respect i j) = r_ahead r.Respect i
+    by nulls_part_none rest f = else_on (over_not_r f r.Ignore (omega arith)) _ _ (else_on (over_not_r f r.Respect (omega arith)) _ _ done)
+    by (nulls_ignore i j) rest f = then_on i.is _ _ (also i _ (also j _ done))
+    by (nulls_respect i j) rest f = else_on (r_test r.Respect (reserved_lexeme r.Ignore) i refl) _ _ (then_on i.is _ _ (also i _ (also j _ done)))
 
 -- [OUTER]: what it leaves says only whether it stood
 pub data Stood (x : Reserved) : Bool → Tokens → Type 0 where
@@ -245,24 +240,24 @@ unfolding optional
 optional_read x n = record { reads = by }
   where
     by : {a : Bool} {u : Tokens} → Stood x a u → (rest : Tokens) → Not (reserved x) rest → length (u ++ rest) < n → optional x (u ++ rest) ≡ taken a rest
-    by stood_not rest f = no_ f.is _ _ done
-    by (stood_is i) rest f = yes i.is _ _ (also i _ done)
+    by stood_not rest f = else_on f.is _ _ done
+    by (stood_is i) rest f = then_on i.is _ _ (also i _ done)
 
 pub offset_read : (n : ℕ) → Read n (Over 11) OffsetOf offset
 unfolding offset
 offset_read n = record { reads = by }
   where
     by : {a : Option Expr} {u : Tokens} → OffsetOf a u → (rest : Tokens) → Over 11 rest → length (u ++ rest) < n → offset (u ++ rest) ≡ taken a rest
-    by offset_none rest f = no_ (over_not_w f w.Offset (omega arith)) _ _ done
-    by (offset_is i j) rest f = yes i.is _ _ (also i _ (also j _ done))
+    by offset_none rest f = else_on (over_not_w f w.Offset (omega arith)) _ _ done
+    by (offset_is i j) rest f = then_on i.is _ _ (also i _ (also j _ done))
 
 pub limit_read : (n : ℕ) → Read n (Over 22) LimitOf limit
 unfolding limit
 limit_read n = record { reads = by }
   where
     by : {a : Option (LimitPart Expr)} {u : Tokens} → LimitOf a u → (rest : Tokens) → Over 22 rest → length (u ++ rest) < n → limit (u ++ rest) ≡ taken a rest
-    by limit_none rest f = no_ (over_not_r f r.Limit (omega arith)) _ _ done
-    by (limit_is i j l) rest f = yes i.is _ _ (also i _ (also j _ (last (offset_read n) l _ (weak (omega arith) f) done)))
+    by limit_none rest f = else_on (over_not_r f r.Limit (omega arith)) _ _ done
+    by (limit_is i j l) rest f = then_on i.is _ _ (also i _ (also j _ (last (offset_read n) l _ (weak (omega arith) f) done)))
 
 pub limit_ahead : (a : Option (LimitPart Expr)) (u : Tokens) → LimitOf a u → Ahead 22 u
 limit_ahead _ _ limit_none = nothing_ahead
@@ -273,8 +268,8 @@ unfolding call_limit
 call_limit_read n = record { reads = by }
   where
     by : {a : Option ℕ} {u : Tokens} → CallLimitOf a u → (rest : Tokens) → Over 22 rest → length (u ++ rest) < n → call_limit (u ++ rest) ≡ taken a rest
-    by call_limit_none rest f = no_ (over_not_r f r.Limit (omega arith)) _ _ done
-    by (call_limit_is i j) rest f = yes i.is _ _ (also i _ (also j _ done))
+    by call_limit_none rest f = else_on (over_not_r f r.Limit (omega arith)) _ _ done
+    by (call_limit_is i j) rest f = then_on i.is _ _ (also i _ (also j _ done))
 
 pub call_limit_ahead : (a : Option ℕ) (u : Tokens) → CallLimitOf a u → Ahead 22 u
 call_limit_ahead _ _ call_limit_none = nothing_ahead
