@@ -1,7 +1,7 @@
 -- Queries are read; and so, depth by depth, each word of the grammar that is shorter than the depth.
 use Rattle.std.proofs.Common.{◌≡◌, ◌⊎◌, inl, inr, ℕ, zero, suc, ◌<◌, ◌≤◌, Bool, true, false, List, [], ◌∷◌, ◌++◌, length, Option, Some, None, refl, sym, ◌∙◌, ap, subst, arith}
 use Rattle.std.proofs.lemmas.List.{append_assoc, append-nil, length-append}
-use Rattle.fronts.specs.Fronts.{Language}
+use Rattle.fronts.specs.Fronts.{Language, OneReading}
 use Rattle.fronts.specs.Readers.{Outcome, taken, ◌>>=◌, and_then, token, if_comes, comes, many}
 use Rattle.fronts.proofs.Agrees.{Many, many_none, many_more, Found}
 use Rattle.sql_types.specs.declared.kinds.SetKind.{SetKind}
@@ -223,3 +223,17 @@ text_whole n _ _ (text_semicolon {q = q} {t = t} {u = u} l i) lt =
 -- and a type
 pub type_whole : (n : ℕ) (a : TypeSpelling) (u : Tokens) → TypeOf (suc levels_below) a u → length u < n → written_type_at n u ≡ taken a []
 type_whole n a u l lt = all_of (less (whole_type_read n)) tt a u l lt
+
+-- ---- so no text is read in two ways
+
+pub expr_once : OneReading ExprOf
+expr_once a b u l m = let e = expr_whole (suc (length u)) a u l (omega arith) in let f = expr_whole (suc (length u)) b u m (omega arith) in let g : taken a [] ≡ taken b [] = sym e ∙ f in cc
+
+pub query_once : OneReading QueryOf
+query_once a b u l m = let e = query_all (suc (length u)) a u l (omega arith) in let f = query_all (suc (length u)) b u m (omega arith) in let g : taken a [] ≡ taken b [] = sym e ∙ f in cc
+
+pub text_once : OneReading TextOf
+text_once a b u l m = let e = text_whole (suc (length u)) a u l (omega arith) in let f = text_whole (suc (length u)) b u m (omega arith) in let g : taken a [] ≡ taken b [] = sym e ∙ f in cc
+
+pub type_once : OneReading (TypeOf (suc levels_below))
+type_once a b u l m = let e = type_whole (suc (length u)) a u l (omega arith) in let f = type_whole (suc (length u)) b u m (omega arith) in let g : taken a [] ≡ taken b [] = sym e ∙ f in cc
