@@ -1,8 +1,7 @@
 -- Basic expressions that begin with a word or `[` are read.
-use Rattle.std.proofs.Common.{◌≡◌, ℕ, suc, ◌<◌, ◌≤◌, Bool, true, false, List, [], ◌∷◌, ◌++◌, length, Option, Some, None, refl, sym, ◌∙◌, ap, subst, arith}
+use Rattle.std.proofs.Common.{◌≡◌, ℕ, suc, ◌<◌, true, false, List, [], ◌∷◌, ◌++◌, length, Option, Some, None, refl, sym, ◌∙◌, ap, subst, arith}
 use Rattle.std.proofs.lemmas.List.{append_assoc, append-nil}
-use Rattle.fronts.specs.Fronts.{Language}
-use Rattle.fronts.specs.Readers.{Outcome, taken, ◌>>=◌, pure, if_comes, comes, next, many}
+use Rattle.fronts.specs.Readers.{taken, ◌>>=◌, pure, if_comes, comes, many}
 use Rattle.fronts.proofs.Agrees.{Many, many_none, many_more, Found}
 use Rattle.sql_ast.specs.declared.clauses.Aliased.{Aliased}
 use Rattle.sql_ast.specs.declared.clauses.Binding.{Binding}
@@ -11,22 +10,21 @@ use Rattle.sql_ast.specs.declared.expr.Expr.{Expr}
 use Rattle.sql_ast.specs.declared.expr.Expr.TheVariants as e
 use Rattle.sql_ast.specs.declared.type_spelling.TypeField.{TypeField}
 use Rattle.sql_ast.specs.declared.type_spelling.TypeSpelling.{TypeSpelling}
-use Rattle.sql_ast.specs.declared.words.Reserved.{Reserved}
 use Rattle.sql_ast.specs.declared.words.Reserved.TheVariants as r
 use Rattle.sql_ast.specs.declared.words.Sign.TheVariants as s
 use Rattle.sql_ast.specs.declared.token.Token.{Token}
-use Rattle.sql_ast.specs.Marks.{Tokens, Is, reserved, sign, named, spelled, same_reserved, same_sign, reserved_lexeme, sign_lexeme, start_of}
+use Rattle.sql_ast.specs.Marks.{Tokens, Is, reserved, sign, named, spelled, same_reserved, same_sign, reserved_lexeme, sign_lexeme}
 use Rattle.sql_ast.specs.Trees.{name_at}
 use Rattle.sql_ast.specs.Parts.{TypeOf, FieldsOf, type_levels}
 use Rattle.sql_ast.specs.Grammar.{ExprOf, QueryOf, ListOf, list_is, basic_name, ArrayItemsOf, array_empty, array_items, SubjectOf, subject_none, subject_is, WhenOf, when_is, WhensOf, whens_none, whens_more, ElseOf, else_none, else_is, MemberOf, member_plain, member_as, MembersOf, members_none, members_more, BindingOf, binding_is, BindingsOf, bindings_none, bindings_more}
 use Rattle.sql_grammar.specs.Ways.{Parser, Ended, until}
-use Rattle.sql_grammar.specs.Words.{starts_type, type_at, levels_below, fields_closed}
-use Rattle.sql_grammar.specs.Exprs.{Below, list_closed, cast_end, when, otherwise, subject, case, cast, extract, grouping, exists, array_from, array, member, comma_member, struct, bound, single_name, with_after, with_item, with_end, with_body, with_expr}
+use Rattle.sql_grammar.specs.Words.{levels_below}
+use Rattle.sql_grammar.specs.Exprs.{Below, when, otherwise, subject, case, cast, extract, grouping, exists, array_from, array, member, comma_member, struct, bound, single_name, with_item, with_body, with_expr}
 use Rattle.sql_grammar.proofs.Marks.{AfterOf, after_of}
-use Rattle.sql_grammar.proofs.Words.{ClosedOf, closed_fields}
-use Rattle.sql_grammar.proofs.Calls.{Bracketed, bracketed_is, Placed, placed_is, Closed, closed_is}
-use Rattle.sql_grammar.proofs.Follows.{Over, Starts}
-use Rattle.sql_grammar.proofs.CompleteSteps.{Read, Free, Not, Comes, less, under, tok, also, part, last, only, then_on, else_on, done, inside, weak, over_r, over_s, over_not_r, starts_not_r, starts_not_s, r_test, s_test, after_read, after_begins, over_many, many_read, comma_level, many_ahead, Ahead, nothing_ahead, r_ahead, to, on, comes_r_over, comes_r_not}
+use Rattle.sql_grammar.proofs.Words.{closed_fields}
+use Rattle.sql_grammar.proofs.Calls.{bracketed_is, placed_is, closed_is}
+use Rattle.sql_grammar.proofs.Follows.{Over}
+use Rattle.sql_grammar.proofs.CompleteSteps.{Read, Comes, less, tok, also, part, last, only, then_on, else_on, done, inside, weak, over_r, over_s, over_not_r, starts_not_r, starts_not_s, r_test, s_test, after_read, after_begins, over_many, many_read, comma_level, many_ahead, Ahead, nothing_ahead, r_ahead, on, comes_r_over, comes_r_not}
 use Rattle.sql_grammar.proofs.CompleteStarts.{expr_starts, list_starts}
 use Rattle.sql_grammar.proofs.CompleteRepeats.{One, one, GoneTo, gone_to, until_to_read}
 use Rattle.sql_grammar.proofs.CompleteTypes.{whole_type_read, struct_fields_read}

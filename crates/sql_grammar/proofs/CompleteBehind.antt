@@ -1,7 +1,7 @@
 -- What goes on behind the first part of an expression is read: since the whole is, and the first part is.
-use Rattle.std.proofs.Common.{◌≡◌, ℕ, suc, ◌<◌, ◌≤◌, Bool, true, false, List, [], ◌∷◌, ◌++◌, length, Option, Some, None, refl, sym, ◌∙◌, ap, subst, arith}
-use Rattle.std.proofs.lemmas.List.{append_assoc, append-nil, length-append}
-use Rattle.fronts.specs.Readers.{Outcome, taken, stuck, deep, ◌>>=◌, and_then, pure, token, comes, next}
+use Rattle.std.proofs.Common.{◌≡◌, ℕ, suc, ◌<◌, ◌≤◌, Bool, false, [], ◌∷◌, ◌++◌, length, None, refl, sym, ◌∙◌, ap, arith}
+use Rattle.std.proofs.lemmas.List.{append_assoc}
+use Rattle.fronts.specs.Readers.{Outcome, taken, stuck, deep, ◌>>=◌, and_then, token, next}
 use Rattle.sql_ast.specs.declared.expr.Expr.{Expr}
 use Rattle.sql_ast.specs.declared.expr.Expr.TheVariants as e
 use Rattle.sql_ast.specs.declared.expr.Part.{Part}
@@ -9,18 +9,17 @@ use Rattle.sql_ast.specs.declared.words.Reserved.TheVariants as r
 use Rattle.sql_ast.specs.declared.words.Sign.TheVariants as s
 use Rattle.sql_ast.specs.declared.token.Token.{Token}
 use Rattle.sql_ast.specs.Marks.{Tokens, Is, reserved, sign, start_of}
-use Rattle.sql_ast.specs.Trees.{prefix_of}
-use Rattle.sql_ast.specs.Grammar.{ExprOf, PostfixOf, BasicOf}
-use Rattle.sql_grammar.specs.Ways.{Parser, Ended, starting, place_of}
+use Rattle.sql_ast.specs.Grammar.{ExprOf, BasicOf}
+use Rattle.sql_grammar.specs.Ways.{Parser, Ended, place_of}
 use Rattle.sql_grammar.specs.Classes.{class_of, BasicStart, basic_lexeme, no_basic, a_bracket, a_grouping, a_with}
-use Rattle.sql_grammar.specs.Exprs.{tells, Below, Held, grouped, bracketed, grouping, with_body, with_expr, enclosed, group, basic_by, opened_by, opened, parts_from, postfix_from, postfix_or_star, postfix, disjunction, expr_from, expr_after}
+use Rattle.sql_grammar.specs.Exprs.{Below, grouped, bracketed, grouping, with_body, with_expr, enclosed, group, basic_by, opened_by, opened, parts_from, postfix_from, postfix_or_star, postfix, disjunction, expr_from, expr_after}
 use Rattle.sql_grammar.proofs.Solid.{solid_postfix}
 use Rattle.sql_grammar.proofs.Follows.{Over, Starts}
-use Rattle.sql_grammar.proofs.CompleteSteps.{Read, also, done, peeked, r_test, s_test, starts_not_r}
+use Rattle.sql_grammar.proofs.CompleteSteps.{also, done, peeked, r_test, s_test, starts_not_r}
 use Rattle.sql_grammar.proofs.CompleteStarts.{starts_r, starts_s}
 use Rattle.sql_grammar.proofs.CompleteLevels.{no_prefix}
 use Rattle.sql_grammar.proofs.CompleteExprs.{regrouped, expr_thus}
-use Rattle.sql_grammar.proofs.CompleteFronts.{FrontPart, expr_front}
+use Rattle.sql_grammar.proofs.CompleteFronts.{FrontPart}
 use Rattle.sql_grammar.proofs.CompleteParts.{Reading}
 use Rattle.sql_grammar.proofs.CompleteHeld.{with_body_all}
 use Rattle.sql_grammar.proofs.CompleteStars.{postfix_read, expr_read}

@@ -1,42 +1,36 @@
 -- Sort items, arguments and calls are read.
-use Rattle.std.proofs.Common.{◌≡◌, ℕ, suc, ◌<◌, ◌≤◌, ◌&&◌, Bool, true, false, List, [], ◌∷◌, ◌++◌, length, Option, Some, None, refl, sym, ◌∙◌, ap, subst, arith}
-use Rattle.std.proofs.lemmas.List.{append_assoc, append-nil}
+use Rattle.std.proofs.Common.{◌≡◌, ℕ, suc, ◌<◌, ◌≤◌, Bool, true, false, List, [], ◌∷◌, ◌++◌, length, Option, Some, None, refl, sym, ◌∙◌, ap, subst, arith}
+use Rattle.std.proofs.lemmas.List.{append_assoc}
 use Rattle.std.proofs.lemmas.Bool.{and_from}
 use Rattle.fronts.specs.Fronts.{Language}
-use Rattle.fronts.specs.Readers.{Outcome, taken, ◌>>=◌, pure, token, if_comes, comes, next, many, noted, noting}
+use Rattle.fronts.specs.Readers.{taken, ◌>>=◌, pure, token, if_comes, comes, next, noted, noting}
 use Rattle.fronts.proofs.Lists.{front_is}
 use Rattle.fronts.proofs.Agrees.{Many, many_none, many_more, Found, WithText}
 use Rattle.sql_ast.specs.declared.clauses.Arg.{Arg}
 use Rattle.sql_ast.specs.declared.clauses.Arg.TheVariants as arg
-use Rattle.sql_ast.specs.declared.clauses.Call.{Call}
-use Rattle.sql_ast.specs.declared.clauses.Function.{Function}
-use Rattle.sql_ast.specs.declared.clauses.Function.TheVariants as function
 use Rattle.sql_ast.specs.declared.clauses.Name.{Name}
-use Rattle.sql_ast.specs.declared.clauses.NullsPart.{NullsPart}
 use Rattle.sql_ast.specs.declared.clauses.Sort.{Sort}
 use Rattle.sql_ast.specs.declared.expr.Expr.{Expr}
 use Rattle.sql_ast.specs.declared.expr.Expr.TheVariants as e
-use Rattle.sql_ast.specs.declared.words.Reserved.{Reserved}
 use Rattle.sql_ast.specs.declared.words.Reserved.TheVariants as r
 use Rattle.sql_ast.specs.declared.words.Sign.TheVariants as s
 use Rattle.sql_ast.specs.declared.token.Token.{Token}
 use Rattle.sql_ast.specs.declared.token.Lexeme.{Lexeme}
 use Rattle.sql_ast.specs.declared.token.Lexeme.TheVariants as l
-use Rattle.sql_ast.specs.Marks.{Tokens, Is, Says, reserved, sign, named, spelled, same_reserved, same_sign, reserved_lexeme, sign_lexeme, name_lexeme, start_of}
-use Rattle.sql_ast.specs.Trees.{name_at, function_of}
-use Rattle.sql_ast.specs.Parts.{DistinctOf, distinct_none, distinct_is, NullsPartOf, nulls_part_none, nulls_ignore, nulls_respect, CallLimitOf, call_limit_none, call_limit_is}
-use Rattle.sql_ast.specs.Grammar.{ExprOf, BasicOf, basic_name, basic_tuple, ListOf, list_is, commas_none, commas_more, CallOf, call_is, ArgumentsOf, arguments_none, arguments_star, arguments_are, ArgsOf, args_none, args_more, ArgOf, arg_expr, arg_lambda, arg_lambda_two, arg_interval, SortOf, sort_is, SortsOf, sorts_none, sorts_more, OrderOf, order_none, order_is}
-use Rattle.sql_grammar.specs.Ways.{Parser, starting}
-use Rattle.sql_grammar.specs.Classes.{class_of, arguments_lexeme, ArgumentsStart, by_star, by_nothing, by_arg}
+use Rattle.sql_ast.specs.Marks.{Tokens, Is, reserved, sign, named, spelled, same_reserved, reserved_lexeme, start_of}
+use Rattle.sql_ast.specs.Trees.{name_at}
+use Rattle.sql_ast.specs.Grammar.{ExprOf, basic_name, basic_tuple, list_is, commas_none, commas_more, ArgumentsOf, arguments_none, arguments_star, arguments_are, ArgsOf, args_none, args_more, ArgOf, arg_expr, arg_lambda, arg_lambda_two, arg_interval, SortOf, sort_is, SortsOf, sorts_none, sorts_more, OrderOf, order_none, order_is}
+use Rattle.sql_grammar.specs.Ways.{Parser}
+use Rattle.sql_grammar.specs.Classes.{class_of, arguments_lexeme, by_nothing, by_arg}
 use Rattle.sql_grammar.specs.Words.{direction, nulls_place}
-use Rattle.sql_grammar.specs.Exprs.{tells, told, Below, variables_of, two_named, sort, comma_sort, order, arg_after, interval, argument, comma_argument, arguments_from, arguments_by, arguments, call_tail, call_body, call_of, call}
-use Rattle.sql_grammar.proofs.Marks.{told_is, tells_is, AfterOf, after_of}
+use Rattle.sql_grammar.specs.Exprs.{Below, variables_of, two_named, sort, comma_sort, order, arg_after, interval, argument, comma_argument, arguments_from, arguments_by, arguments}
+use Rattle.sql_grammar.proofs.Marks.{AfterOf, after_of}
 use Rattle.sql_grammar.proofs.Solid.{solid_expr}
-use Rattle.sql_grammar.proofs.Follows.{Over, Starts, level, level_of, rank}
-use Rattle.sql_grammar.proofs.CompleteSteps.{Read, Free, Not, less, under, tok, also, part, last, only, then_on, else_on, peeked, done, weak, over_r, over_s, over_n, over_not_r, over_not_s, starts_not_r, r_test, s_test, n_test, after_read, after_begins, over_many, many_read, comma_level, many_ahead, Ahead, nothing_ahead, r_ahead, to, on}
-use Rattle.sql_grammar.proofs.CompleteStarts.{expr_starts, starts_s, starts_n}
+use Rattle.sql_grammar.proofs.Follows.{Over, Starts, level, rank}
+use Rattle.sql_grammar.proofs.CompleteSteps.{Read, less, under, tok, also, part, last, only, then_on, else_on, peeked, done, weak, over_s, over_n, over_not_r, over_not_s, starts_not_r, r_test, s_test, n_test, after_read, after_begins, over_many, comma_level, many_ahead, Ahead, nothing_ahead, r_ahead, to, on}
+use Rattle.sql_grammar.proofs.CompleteStarts.{expr_starts}
 use Rattle.sql_grammar.proofs.CompleteRepeats.{begun}
-use Rattle.sql_grammar.proofs.CompleteWords.{direction_read, direction_ahead, nulls_place_read, nulls_place_ahead, distinct_read, nulls_part_read, call_limit_read, call_limit_ahead}
+use Rattle.sql_grammar.proofs.CompleteWords.{direction_read, direction_ahead, nulls_place_read, nulls_place_ahead}
 use Rattle.sql_grammar.proofs.CompleteFronts.{basic_expr}
 use Rattle.sql_grammar.proofs.CompleteParts.{Reading}
 

@@ -1,6 +1,6 @@
 -- Chains read each word, also those whose operands may end in a `>`.
-use Rattle.std.proofs.Common.{◌≡◌, ℕ, zero, suc, ◌+◌, ◌<◌, ◌≤◌, Bool, true, false, List, [], ◌∷◌, ◌++◌, length, Option, Some, None, refl, sym, ◌∙◌, ap, subst, arith}
-use Rattle.std.proofs.lemmas.List.{append_assoc, append-nil}
+use Rattle.std.proofs.Common.{◌≡◌, ℕ, suc, ◌<◌, ◌≤◌, Bool, true, false, List, [], ◌∷◌, ◌++◌, length, Some, None, refl, sym, ◌∙◌, ap, subst, arith}
+use Rattle.std.proofs.lemmas.List.{append_assoc}
 use Rattle.fronts.specs.Fronts.{Language}
 use Rattle.fronts.specs.Readers.{taken, ◌>>=◌, comes, many}
 use Rattle.fronts.proofs.Agrees.{Many, many_none, many_more, Found}
@@ -15,8 +15,8 @@ use Rattle.sql_grammar.specs.Ways.{Parser, Ended, until, starting}
 use Rattle.sql_grammar.specs.Exprs.{Below, Pending, linked, linked_pending, chain_from, pending_from}
 use Rattle.sql_grammar.proofs.Levels.{LinkOf, link_of}
 use Rattle.sql_grammar.proofs.Follows.{Over, level}
-use Rattle.sql_grammar.proofs.CompleteSteps.{Read, Free, Not, less, tok, part, last, done, weak, Ahead, to, over_many, many_ahead}
-use Rattle.sql_grammar.proofs.CompleteRepeats.{begun, One, one, Gone, GoneTo, gone_to, until_read, until_to_read, LastApart, last_apart}
+use Rattle.sql_grammar.proofs.CompleteSteps.{Read, Not, less, tok, part, last, done, weak, to, over_many, many_ahead}
+use Rattle.sql_grammar.proofs.CompleteRepeats.{begun, One, one, Gone, GoneTo, gone_to, until_read, until_to_read, last_apart}
 
 link_begins : (fits : Token → Bool) (op : Token → Operator) (L : Language Token Expr) (a : Link Expr) (u rest : Tokens) → LinkOf fits op L a u → comes fits (u ++ rest) ≡ true
 link_begins fits op L _ _ rest (link_of i l) = i.is

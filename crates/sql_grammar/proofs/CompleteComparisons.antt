@@ -1,7 +1,6 @@
 -- Comparisons read each word, if the operands and what parentheses hold are read.
-use Rattle.std.proofs.Common.{◌≡◌, ◌⊎◌, inl, inr, ℕ, suc, ◌<◌, ◌≤◌, ◌==◌, ◌&&◌, Bool, true, false, List, [], ◌∷◌, ◌++◌, length, Option, Some, None, refl, sym, ◌∙◌, ap, subst, arith}
+use Rattle.std.proofs.Common.{◌≡◌, ◌⊎◌, inl, inr, ℕ, suc, ◌<◌, ◌≤◌, ◌==◌, ◌&&◌, Bool, true, false, [], ◌∷◌, ◌++◌, length, Some, None, refl, sym, ap, subst, arith}
 use Rattle.std.proofs.lemmas.List.{append_assoc}
-use Rattle.fronts.specs.Fronts.{Language}
 use Rattle.fronts.specs.Readers.{Outcome, taken, ◌>>=◌, and_then, comes, next}
 use Rattle.sql_ast.specs.declared.expr.Comparison.{Comparison}
 use Rattle.sql_ast.specs.declared.expr.Comparison.TheVariants as compare
@@ -11,25 +10,23 @@ use Rattle.sql_ast.specs.declared.expr.IsTest.{IsTest}
 use Rattle.sql_ast.specs.declared.expr.IsTest.TheVariants as test
 use Rattle.sql_ast.specs.declared.expr.Quantifier.{Quantifier}
 use Rattle.sql_ast.specs.declared.expr.Quantifier.TheVariants as quantifier
-use Rattle.sql_ast.specs.declared.words.Reserved.{Reserved}
 use Rattle.sql_ast.specs.declared.words.Reserved.TheVariants as r
 use Rattle.sql_ast.specs.declared.words.Sign.TheVariants as s
 use Rattle.sql_ast.specs.declared.token.Token.{Token}
 use Rattle.sql_ast.specs.declared.token.Lexeme.{Lexeme}
 use Rattle.sql_ast.specs.declared.token.Lexeme.TheVariants as l
-use Rattle.sql_ast.specs.Marks.{Tokens, Is, Says, reserved, sign, same_reserved, same_sign, reserved_lexeme, sign_lexeme, closes_shift, start_of}
-use Rattle.sql_ast.specs.Trees.{comparison_of, comparison_lexeme, quantifier_of, quantifier_lexeme, test_of, test_lexeme, alone}
+use Rattle.sql_ast.specs.Marks.{Tokens, Is, Says, reserved, same_reserved, same_sign, reserved_lexeme, sign_lexeme, closes_shift, start_of}
+use Rattle.sql_ast.specs.Trees.{comparison_of, comparison_lexeme, quantifier_of, quantifier_lexeme, test_of, test_lexeme}
 use Rattle.sql_ast.specs.Parts.{NegatableOf, not_negated, is_negated, IsNotOf, is_plain, is_not}
-use Rattle.sql_ast.specs.Grammar.{ExprOf, QueryOf, ListOf, BorOf, CompOf, comp_bor, comp_compare, comp_like, comp_like_list, comp_like_unnest, comp_between, comp_in_list, comp_in_query, comp_in_unnest, comp_is, comp_distinct}
-use Rattle.sql_grammar.specs.Ways.{Parser, starting}
+use Rattle.sql_ast.specs.Grammar.{ExprOf, BorOf, CompOf, comp_bor, comp_compare, comp_like, comp_like_list, comp_like_unnest, comp_between, comp_in_list, comp_in_query, comp_in_unnest, comp_is, comp_distinct}
 use Rattle.sql_grammar.specs.Classes.{class_of, ComparisonStart, by_sign, by_like, by_between, by_in, by_is, by_not, no_comparison, comparison_class}
-use Rattle.sql_grammar.specs.Exprs.{tells, told, Below, Pending, bor_pending, bor, enclosed, unnested, sign_after, quantified, like_bor, like_after, between_after, in_after, is_test, is_after, negated_by, not_after, compared_by, compared, comparison}
+use Rattle.sql_grammar.specs.Exprs.{tells, Below, bor_pending, bor, enclosed, unnested, sign_after, quantified, like_bor, like_after, between_after, in_after, is_test, is_after, negated_by, not_after, compared_by, compared, comparison}
 use Rattle.sql_grammar.proofs.Marks.{told_is, tells_is, AfterOf, after_of}
 use Rattle.sql_grammar.proofs.Calls.{Bracketed, bracketed_is}
 use Rattle.sql_grammar.proofs.Basics.{HeldOf, holds_query, holds_exprs}
 use Rattle.sql_grammar.proofs.Solid.{solid_bor}
 use Rattle.sql_grammar.proofs.Follows.{Over, Starts, level, rank}
-use Rattle.sql_grammar.proofs.CompleteSteps.{Read, Free, Not, less, tok, also, part, last, only, then_on, else_on, peeked, done, weak, over_r, r_test, s_test, starts_not_s, after_read}
+use Rattle.sql_grammar.proofs.CompleteSteps.{Read, Free, Not, less, tok, also, part, last, then_on, else_on, peeked, done, weak, over_r, r_test, s_test, starts_not_s, after_read}
 use Rattle.sql_grammar.proofs.CompleteStarts.{bor_starts}
 use Rattle.sql_grammar.proofs.CompleteRepeats.{begun, begun_only}
 use Rattle.sql_grammar.proofs.CompleteChains.{Pends, plain_of, ends_in}

@@ -1,29 +1,25 @@
 -- NOT, AND and OR read each word, if comparisons are read; and an expression is read as its first part, and what goes on
 -- behind it.
-use Rattle.std.proofs.Common.{◌≡◌, ℕ, zero, suc, ◌<◌, ◌≤◌, Bool, true, false, cond, List, [], ◌∷◌, ◌++◌, length, Option, Some, None, refl, sym, ◌∙◌, ap, subst, arith}
-use Rattle.std.proofs.lemmas.List.{append_assoc, append-nil}
-use Rattle.fronts.specs.Fronts.{Language}
+use Rattle.std.proofs.Common.{◌≡◌, ℕ, zero, suc, ◌<◌, Bool, true, false, List, [], ◌∷◌, ◌++◌, length, refl, ◌∙◌, ap, arith}
 use Rattle.fronts.specs.Readers.{Outcome, taken, stuck, deep, ◌>>=◌, and_then, comes, next, many}
 use Rattle.fronts.proofs.Agrees.{Many, many_none, many_more}
 use Rattle.sql_ast.specs.declared.expr.Expr.{Expr}
 use Rattle.sql_ast.specs.declared.expr.Expr.TheVariants as e
 use Rattle.sql_ast.specs.declared.expr.Link.{Link}
 use Rattle.sql_ast.specs.declared.expr.Operator.TheVariants as operator
-use Rattle.sql_ast.specs.declared.expr.Prefix.{Prefix}
 use Rattle.sql_ast.specs.declared.words.Reserved.TheVariants as r
 use Rattle.sql_ast.specs.declared.token.Token.{Token}
-use Rattle.sql_ast.specs.Marks.{Tokens, Is, reserved, start_of}
+use Rattle.sql_ast.specs.Marks.{Tokens, Is, reserved}
 use Rattle.sql_ast.specs.Trees.{nots, prefixes, prefix_of}
 use Rattle.sql_ast.specs.Parts.{NotsOf, nots_none, nots_more}
 use Rattle.sql_ast.specs.Grammar.{ExprOf, expr_is, OrsOf, ors_none, ors_more, ConjOf, conj_is, AndsOf, ands_none, ands_more, NegOf, neg_is, CompOf}
-use Rattle.sql_grammar.specs.Ways.{Parser, starting, place_of}
+use Rattle.sql_grammar.specs.Ways.{Parser, place_of}
 use Rattle.sql_grammar.specs.Exprs.{tells, Below, Pending, not_place, prefix, postfix, unary, product, product_from, sum, sum_from, shift, shift_from, band, band_from, bxor, bxor_from, bor_pending, bor_from, compared, comparison, negation, conjunction, conjunction_from, disjunction, disjunction_from, expr_from}
 use Rattle.sql_grammar.proofs.Levels.{LinkOf, link_of}
 use Rattle.sql_grammar.proofs.Solid.{solid_neg, solid_conj}
-use Rattle.sql_grammar.proofs.Follows.{Over, Starts}
-use Rattle.sql_grammar.proofs.CompleteSteps.{Read, Free, Not, less, tok, part, last, else_on, done, free_many, starts_not_r, starts_weak}
+use Rattle.sql_grammar.proofs.Follows.{Over}
+use Rattle.sql_grammar.proofs.CompleteSteps.{Read, Free, tok, part, last, else_on, done, free_many, starts_not_r}
 use Rattle.sql_grammar.proofs.CompleteStarts.{comp_starts, r_level}
-use Rattle.sql_grammar.proofs.CompleteLevels.{no_prefix}
 use Rattle.sql_grammar.proofs.CompleteChains.{chain_read}
 
 data PlaceIs : ℕ → Tokens → Type 0 where

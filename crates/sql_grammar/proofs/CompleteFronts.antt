@@ -1,18 +1,17 @@
 -- The postfix expression with which an expression begins that begins with neither NOT nor a prefix; and a basic expression as
 -- a whole one.
-use Rattle.std.proofs.Common.{◌≡◌, ℕ, suc, ◌<◌, ◌≤◌, Bool, true, false, List, [], ◌∷◌, ◌++◌, length, Option, Some, None, refl, sym, ◌∙◌, ap, subst, arith}
+use Rattle.std.proofs.Common.{◌≡◌, ℕ, ◌<◌, ◌≤◌, Bool, [], ◌∷◌, ◌++◌, length, Some, refl, sym, ◌∙◌, ap, subst, arith}
 use Rattle.std.proofs.lemmas.List.{append_assoc, append-nil}
 use Rattle.sql_ast.specs.declared.expr.Comparison.{Comparison}
 use Rattle.sql_ast.specs.declared.expr.Expr.{Expr}
-use Rattle.sql_ast.specs.declared.expr.Signed.{Signed}
 use Rattle.sql_ast.specs.declared.words.Reserved.{Reserved}
 use Rattle.sql_ast.specs.declared.words.Reserved.TheVariants as r
 use Rattle.sql_ast.specs.declared.words.Sign.TheVariants as s
 use Rattle.sql_ast.specs.declared.token.Token.{Token}
 use Rattle.sql_ast.specs.declared.token.Lexeme.{Lexeme}
 use Rattle.sql_ast.specs.declared.token.Lexeme.TheVariants as l
-use Rattle.sql_ast.specs.Marks.{Tokens, Is, Says, reserved, sign}
-use Rattle.sql_ast.specs.Trees.{chain, nots, prefixes, path, comparison_of, comparison_lexeme}
+use Rattle.sql_ast.specs.Marks.{Tokens}
+use Rattle.sql_ast.specs.Trees.{chain, nots, prefixes, path, comparison_lexeme}
 use Rattle.sql_ast.specs.Parts.{nots_none, nots_more, prefixes_none, prefixes_more, NegatableOf, not_negated, is_negated, IsNotOf, is_plain, is_not}
 use Rattle.sql_ast.specs.Grammar.{ExprOf, expr_is, ors_none, ConjOf, conj_is, ands_none, NegOf, neg_is, CompOf, comp_bor, comp_compare, comp_like, comp_like_list, comp_like_unnest, comp_between, comp_in_list, comp_in_query, comp_in_unnest, comp_is, comp_distinct, BorOf, bor_is, bors_none, BxorOf, bxor_is, bxors_none, BandOf, band_is, bands_none, ShiftOf, shift_is, shifts_none, SumOf, sum_is, sums_none, ProdOf, prod_is, prods_none, UnaryOf, unary_is, PostfixOf, postfix_is, parts_none, BasicOf}
 use Rattle.sql_grammar.proofs.Follows.{Over, Starts, level, rank, is_reserved}

@@ -1,10 +1,9 @@
 -- Grouping items and GROUP BY are read.
-use Rattle.std.proofs.Common.{◌≡◌, ℕ, suc, ◌<◌, ◌≤◌, Bool, true, false, cond, List, [], ◌∷◌, ◌++◌, length, take, Option, Some, None, refl, sym, ◌∙◌, ap, subst, arith}
-use Rattle.std.proofs.lemmas.List.{append_assoc, append-nil}
-use Rattle.fronts.specs.Fronts.{Language}
-use Rattle.fronts.specs.Readers.{Outcome, taken, stuck, deep, ◌>>=◌, and_then, comes, next, many, token, noted, noting}
+use Rattle.std.proofs.Common.{◌≡◌, ℕ, suc, ◌<◌, ◌≤◌, Bool, true, false, cond, List, [], ◌∷◌, ◌++◌, length, Option, Some, None, refl, sym, ◌∙◌, ap, arith}
+use Rattle.std.proofs.lemmas.List.{append_assoc}
+use Rattle.fronts.specs.Readers.{Outcome, taken, stuck, ◌>>=◌, and_then, comes, token, noted}
 use Rattle.fronts.proofs.Lists.{front_is}
-use Rattle.fronts.proofs.Agrees.{Many, many_none, many_more, Found}
+use Rattle.fronts.proofs.Agrees.{Many, many_none, many_more}
 use Rattle.sql_ast.specs.declared.expr.Expr.{Expr}
 use Rattle.sql_ast.specs.declared.expr.Expr.TheVariants as e
 use Rattle.sql_ast.specs.declared.grouping.Cube.{Cube}
@@ -13,7 +12,6 @@ use Rattle.sql_ast.specs.declared.grouping.CubeKind.TheVariants as cube_kind
 use Rattle.sql_ast.specs.declared.grouping.GroupItem.{GroupItem}
 use Rattle.sql_ast.specs.declared.grouping.GroupItem.TheVariants as item_kind
 use Rattle.sql_ast.specs.declared.grouping.GroupSet.{GroupSet}
-use Rattle.sql_ast.specs.declared.grouping.GroupSet.TheVariants as set_kind
 use Rattle.sql_ast.specs.declared.grouping.Groups.{Groups}
 use Rattle.sql_ast.specs.declared.grouping.Groups.TheVariants as groups_kind
 use Rattle.sql_ast.specs.declared.query.Query.{Query}
@@ -23,24 +21,22 @@ use Rattle.sql_ast.specs.declared.words.Word.TheVariants as w
 use Rattle.sql_ast.specs.declared.token.Token.{Token}
 use Rattle.sql_ast.specs.declared.token.Lexeme.{Lexeme}
 use Rattle.sql_ast.specs.declared.token.Lexeme.TheVariants as l
-use Rattle.sql_ast.specs.Marks.{Tokens, Is, IsNot, Says, reserved, sign, word, same_reserved, same_sign, reserved_lexeme, sign_lexeme, word_lexeme, start_of}
+use Rattle.sql_ast.specs.Marks.{Tokens, Is, reserved, sign, word, same_reserved, same_sign, reserved_lexeme, sign_lexeme, word_lexeme, start_of}
 use Rattle.sql_ast.specs.Trees.{cube_of, cube_lexeme, alone}
 use Rattle.sql_ast.specs.Grammar.{ExprOf, QueryOf, ListOf, list_is, CommasOf, GroupByOf, group_none, group_is, GroupsOf, groups_keys, groups_empty, groups_sets, groups_cube, GroupSetOf, set_item, set_cube, GroupSetsOf, sets_none, sets_more, CubeOf, cube_is, GroupItemsOf, gitems_none, gitems_more, GroupItemOf, gitem_empty, gitem_list, gitem_expr, gitem_longer, gitem_query}
-use Rattle.sql_grammar.specs.Ways.{Parser, starting}
 use Rattle.sql_grammar.specs.Classes.{class_of, GroupsStart, groups_bracket, groups_grouping, groups_by_cube, groups_expr, groups_class}
-use Rattle.sql_grammar.specs.Exprs.{tells, told, Below, Held, held_query, held_exprs, grouped, after, bracketed, enclosed, expr_after}
+use Rattle.sql_grammar.specs.Exprs.{tells, Below, Held, held_query, held_exprs, grouped, bracketed, enclosed, expr_after}
 use Rattle.sql_grammar.specs.Queries.{gitem_after, gitem, comma_gitem, cube_behind, cube, group_set, comma_group_set, keys, keys_after, grouping_sets, keys_grouping, groups_by, grouped_by, group_by}
 use Rattle.sql_grammar.proofs.Marks.{told_is, tells_is, AfterOf, after_of}
-use Rattle.sql_grammar.proofs.Basics.{HeldOf, holds_query, holds_exprs}
+use Rattle.sql_grammar.proofs.Basics.{holds_query, holds_exprs}
 use Rattle.sql_grammar.proofs.Ways.{start_front}
 use Rattle.sql_grammar.proofs.Solid.{no_expr, solid_expr}
-use Rattle.sql_grammar.proofs.Follows.{Over, Starts, level, rank, is_sign}
-use Rattle.sql_grammar.proofs.CompleteSteps.{Read, Free, Not, less, under, tok, also, part, last, only, then_on, else_on, peeked, done, inside, weak, refute, over_r, over_s, over_not_r, r_test, s_test, w_test, starts_not_s, after_read, after_begins, over_many, comma_level, many_ahead, Ahead, nothing_ahead, r_ahead, to, on}
+use Rattle.sql_grammar.proofs.Follows.{Over, Starts, rank}
+use Rattle.sql_grammar.proofs.CompleteSteps.{Read, Free, less, tok, also, part, last, then_on, else_on, peeked, done, weak, over_s, over_not_r, r_test, s_test, starts_not_s, after_read, after_begins, over_many, comma_level, many_ahead, Ahead, nothing_ahead, r_ahead, to, on}
 use Rattle.sql_grammar.proofs.CompleteStarts.{expr_starts, list_starts, starts_s}
-use Rattle.sql_grammar.proofs.CompleteRepeats.{begun_only}
-use Rattle.sql_grammar.proofs.CompleteParts.{Reading, bracketed_read, commas_read, commas_ahead}
+use Rattle.sql_grammar.proofs.CompleteParts.{Reading, commas_read, commas_ahead}
 use Rattle.sql_grammar.proofs.CompleteHeld.{held_read}
-use Rattle.sql_grammar.proofs.CompleteBehind.{Both, both_of, behind_bracket, behind_grouping}
+use Rattle.sql_grammar.proofs.CompleteBehind.{both_of, behind_bracket, behind_grouping}
 use Rattle.sql_grammar.proofs.CompleteNothing.{after_nothing, query_not_close, bracket_holds}
 
 -- ---- repetitions, and first tokens
@@ -151,8 +147,8 @@ module _ (n : ℕ) (b : Below) (x : Reading n b) where
       → length ((o ∷ (v ++ (c ∷ t ∷ y))) ++ rest) < n → (enclosed n b >>= gitem_after n b o.start) ((v ++ (c ∷ t ∷ y)) ++ rest) ≡ taken (item_kind.Expr a) rest
   longer_by o c t a ms v y io l h ic g rest f lt =
       let reads : enclosed n b ((v ++ (c ∷ t ∷ y)) ++ rest) ≡ taken (held_exprs ms) ((t ∷ y) ++ rest)
-          = ap (enclosed n b) (append_assoc v (c ∷ t ∷ y) rest ∙ sym (append_assoc v (c ∷ []) ((t ∷ y) ++ rest)))
-          ∙ (held_read n b x).reads (holds_exprs l h ic) ((t ∷ y) ++ rest) tt (let q : length ((v ++ (c ∷ [])) ++ ((t ∷ y) ++ rest)) ≡ length ((v ++ (c ∷ t ∷ y)) ++ rest) = ap length (append_assoc v (c ∷ []) ((t ∷ y) ++ rest) ∙ sym (append_assoc v (c ∷ t ∷ y) rest)) in omega arith) in
+      = ap (enclosed n b) (append_assoc v (c ∷ t ∷ y) rest ∙ sym (append_assoc v (c ∷ []) ((t ∷ y) ++ rest)))
+      ∙ (held_read n b x).reads (holds_exprs l h ic) ((t ∷ y) ++ rest) tt (let q : length ((v ++ (c ∷ [])) ++ ((t ∷ y) ++ rest)) ≡ length ((v ++ (c ∷ t ∷ y)) ++ rest) = ap length (append_assoc v (c ∷ []) ((t ∷ y) ++ rest) ∙ sym (append_assoc v (c ∷ t ∷ y) rest)) in omega arith) in
       let both = behind_bracket n b x o (v ++ (c ∷ t ∷ y)) a io g rest f (omega arith) in
       let same = same_taken both.first (held_exprs ms) both.left ((t ∷ y) ++ rest) (enclosed n b ((v ++ (c ∷ t ∷ y)) ++ rest)) both.reads reads in
       ap (λ k. and_then k (gitem_after n b o.start)) reads
@@ -162,12 +158,12 @@ module _ (n : ℕ) (b : Below) (x : Reading n b) where
       → length ((o ∷ (v ++ (c ∷ y))) ++ rest) < n → (enclosed n b >>= gitem_after n b o.start) ((v ++ (c ∷ y)) ++ rest) ≡ taken (item_kind.Expr a) rest
   query_by o c a q v y io l ic g rest f lt =
       let reads : enclosed n b ((v ++ (c ∷ y)) ++ rest) ≡ taken (held_query q) (y ++ rest)
-          = ap (enclosed n b) (append_assoc v (c ∷ y) rest ∙ sym (append_assoc v (c ∷ []) (y ++ rest)))
-          ∙ (held_read n b x).reads (holds_query l ic) (y ++ rest) tt (let k : length ((v ++ (c ∷ [])) ++ (y ++ rest)) ≡ length ((v ++ (c ∷ y)) ++ rest) = ap length (append_assoc v (c ∷ []) (y ++ rest) ∙ sym (append_assoc v (c ∷ y) rest)) in omega arith) in
+      = ap (enclosed n b) (append_assoc v (c ∷ y) rest ∙ sym (append_assoc v (c ∷ []) (y ++ rest)))
+      ∙ (held_read n b x).reads (holds_query l ic) (y ++ rest) tt (let k : length ((v ++ (c ∷ [])) ++ (y ++ rest)) ≡ length ((v ++ (c ∷ y)) ++ rest) = ap length (append_assoc v (c ∷ []) (y ++ rest) ∙ sym (append_assoc v (c ∷ y) rest)) in omega arith) in
       let both = behind_bracket n b x o (v ++ (c ∷ y)) a io g rest f (omega arith) in
       let same = same_taken both.first (held_query q) both.left (y ++ rest) (enclosed n b ((v ++ (c ∷ y)) ++ rest)) both.reads reads in
       let goes : expr_after n b o.start (e.Scalar q o.start) (y ++ rest) ≡ taken a rest
-          = ap (λ (k : Tokens). expr_after n b o.start (e.Scalar q o.start) k) (sym same.1) ∙ ap (λ (k : Held). expr_after n b o.start (grouped o.start k) both.left) (sym same.0) ∙ both.goes_on in
+      = ap (λ (k : Tokens). expr_after n b o.start (e.Scalar q o.start) k) (sym same.1) ∙ ap (λ (k : Held). expr_after n b o.start (grouped o.start k) both.left) (sym same.0) ∙ both.goes_on in
       ap (λ k. and_then k (gitem_after n b o.start)) reads ∙ ap (λ k. and_then k (λ a. λ ts. taken (item_kind.Expr a) ts)) goes
 
   gitem_by : {a : GroupItem Expr} {u : Tokens} → GroupItemOf a u → (rest : Tokens) → Over 10 rest → length (u ++ rest) < n → gitem n b (u ++ rest) ≡ taken a rest

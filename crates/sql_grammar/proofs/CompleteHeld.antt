@@ -2,43 +2,42 @@
 use Rattle.std.proofs.Common.{◌≡◌, ℕ, suc, ◌<◌, ◌≤◌, Bool, true, false, List, [], ◌∷◌, ◌++◌, length, Option, Some, None, refl, sym, ◌∙◌, ap, subst, arith}
 use Rattle.std.proofs.lemmas.List.{append_assoc, append-nil, length-append}
 use Rattle.fronts.specs.Fronts.{Language}
-use Rattle.fronts.specs.Readers.{Outcome, taken, ◌>>=◌, and_then, pure, if_comes, comes, next}
+use Rattle.fronts.specs.Readers.{taken, and_then, if_comes, comes}
 use Rattle.sql_types.specs.declared.kinds.SetKind.{SetKind}
 use Rattle.sql_types.specs.declared.kinds.SetKind.TheVariants as set
 use Rattle.sql_ast.specs.declared.clauses.Binding.{Binding}
 use Rattle.sql_ast.specs.declared.clauses.LimitPart.{LimitPart}
 use Rattle.sql_ast.specs.declared.clauses.Sort.{Sort}
-use Rattle.sql_ast.specs.declared.expr.Expr.{Expr, out-Expr}
+use Rattle.sql_ast.specs.declared.expr.Expr.{Expr}
 use Rattle.sql_ast.specs.declared.expr.Expr.TheVariants as e
 use Rattle.sql_ast.specs.declared.expr.Expr.TheViews.{outs-Scalar}
 use Rattle.sql_ast.specs.declared.query.Query.{Query, roll-Query}
 use Rattle.sql_ast.specs.declared.query.SetTerm.{SetTerm}
 use Rattle.sql_ast.specs.declared.query.Term.{Term}
 use Rattle.sql_ast.specs.declared.query.Term.TheVariants as term
-use Rattle.sql_ast.specs.declared.words.Reserved.{Reserved}
 use Rattle.sql_ast.specs.declared.words.Reserved.TheVariants as r
 use Rattle.sql_ast.specs.declared.words.Sign.TheVariants as s
 use Rattle.sql_ast.specs.declared.words.Word.TheVariants as w
 use Rattle.sql_ast.specs.declared.token.Token.{Token}
 use Rattle.sql_ast.specs.declared.token.Lexeme.{Lexeme}
 use Rattle.sql_ast.specs.declared.token.Lexeme.TheVariants as l
-use Rattle.sql_ast.specs.Marks.{Tokens, Is, reserved, sign, same_reserved, same_sign, reserved_lexeme, sign_lexeme, integer_lexeme, text_lexeme, bytes_lexeme, parameter_lexeme, start_of}
+use Rattle.sql_ast.specs.Marks.{Tokens, Is, reserved, sign, same_reserved, reserved_lexeme, sign_lexeme, integer_lexeme, text_lexeme, bytes_lexeme, parameter_lexeme}
 use Rattle.sql_ast.specs.Trees.{set_word, is_subquery, alone, function_lexeme}
 use Rattle.sql_ast.specs.Parts.{LimitOf}
-use Rattle.sql_ast.specs.Grammar.{ExprOf, PostfixOf, postfix_is, BasicOf, basic_integer, basic_string, basic_bytes, basic_true, basic_false, basic_null, basic_date, basic_parameter, basic_name, basic_call, basic_safe_call, basic_group, basic_query, basic_tuple, basic_case, basic_cast, basic_safe_cast, basic_extract, basic_grouping, basic_exists, basic_array_query, basic_array, basic_array_word, basic_array_typed, basic_struct, basic_typed_struct, basic_with, BindingOf, BindingsOf, ArrayItemsOf, array_empty, array_items, ListOf, list_is, CommasOf, commas_none, commas_more, QueryOf, query_is, ctes_none, ctes_are, CteOf, cte_is, BodyOf, body_is, TermOf, term_select, term_query, SelectOf, select_is, SetTermsOf, set_terms_none, set_terms_more, OrderOf}
+use Rattle.sql_ast.specs.Grammar.{ExprOf, PostfixOf, postfix_is, BasicOf, basic_integer, basic_string, basic_bytes, basic_true, basic_false, basic_null, basic_date, basic_parameter, basic_name, basic_call, basic_safe_call, basic_group, basic_query, basic_tuple, basic_case, basic_cast, basic_safe_cast, basic_extract, basic_grouping, basic_exists, basic_array_query, basic_array, basic_array_word, basic_array_typed, basic_struct, basic_typed_struct, basic_with, BindingOf, BindingsOf, ArrayItemsOf, array_empty, array_items, ListOf, list_is, CommasOf, commas_none, commas_more, QueryOf, query_is, ctes_none, ctes_are, cte_is, body_is, term_select, term_query, select_is, SetTermsOf, set_terms_none, set_terms_more, OrderOf}
 use Rattle.sql_grammar.specs.Ways.{Parser}
 use Rattle.sql_grammar.specs.Classes.{class_of, Content, by_select, by_with, by_expr, content_class}
-use Rattle.sql_grammar.specs.Exprs.{Below, Opening, with_read, term_read, Held, held_query, held_exprs, opening_layer, opening_of, grouped, with_body, listed, two_listed, query_closed, held_from, held_with, enclosed_by, enclosed, group}
-use Rattle.sql_grammar.proofs.Marks.{AfterOf, after_of}
+use Rattle.sql_grammar.specs.Exprs.{Below, Opening, term_read, Held, held_query, held_exprs, opening_layer, opening_of, with_body, listed, two_listed, query_closed, held_from, held_with, enclosed_by, enclosed, group}
+use Rattle.sql_grammar.proofs.Marks.{after_of}
 use Rattle.sql_grammar.proofs.Subqueries.{subquery_opens}
 use Rattle.sql_grammar.proofs.Basics.{HeldOf, holds_query, holds_exprs}
 use Rattle.sql_grammar.proofs.Solid.{solid_basic, no_expr}
-use Rattle.sql_grammar.proofs.Follows.{Over, Starts, level, rank, is_reserved, is_sign, is_named, is_word}
-use Rattle.sql_grammar.proofs.CompleteSteps.{apart, Read, Free, Not, Comes, less, tok, also, part, last, only, then_on, else_on, peeked, done, weak, over_r, over_s, over_not_s, r_test, s_test, n_test, Ahead, nothing_ahead, level_ahead, to, on}
+use Rattle.sql_grammar.proofs.Follows.{Over, level, rank, is_reserved, is_sign, is_named, is_word}
+use Rattle.sql_grammar.proofs.CompleteSteps.{apart, Read, Free, less, tok, also, part, last, then_on, else_on, peeked, done, weak, over_s, over_not_s, r_test, s_test, n_test, Ahead, nothing_ahead, level_ahead, on}
 use Rattle.sql_grammar.proofs.CompleteStarts.{expr_starts, starts_r, r_level}
 use Rattle.sql_grammar.proofs.CompleteWords.{limit_ahead}
-use Rattle.sql_grammar.proofs.CompleteFronts.{FrontPart, expr_front, basic_expr}
-use Rattle.sql_grammar.proofs.CompleteParts.{Reading, TermMore, term_more_is, list_closed_read, closed_over, commas_closed, comma_expr_read}
+use Rattle.sql_grammar.proofs.CompleteFronts.{expr_front, basic_expr}
+use Rattle.sql_grammar.proofs.CompleteParts.{Reading, term_more_is, list_closed_read, closed_over, commas_closed, comma_expr_read}
 use Rattle.sql_grammar.proofs.CompleteCalls.{order_ahead}
 use Rattle.sql_grammar.proofs.CompleteTails.{call_function}
 use Rattle.sql_grammar.proofs.CompleteBasics.{with_body_read}
@@ -157,7 +156,7 @@ module _ (n : ℕ) (b : Below) (x : Reading n b) where
   unfolding held_with
   held_with_read t w y d a m it l bs v z h c ic rest lt =
       let long : length (((t ∷ w) ++ y) ++ ((v ++ (c ∷ [])) ++ rest)) ≡ length ((t ∷ (w ++ (y ++ (v ++ (c ∷ []))))) ++ rest)
-          = ap (λ (q : Tokens). length (t ∷ q)) (sym (append_assoc (w ++ y) (v ++ (c ∷ [])) rest) ∙ ap (λ (q : Tokens). q ++ rest) (append_assoc w y (v ++ (c ∷ [])))) in
+      = ap (λ (q : Tokens). length (t ∷ q)) (sym (append_assoc (w ++ y) (v ++ (c ∷ [])) rest) ∙ ap (λ (q : Tokens). q ++ rest) (append_assoc w y (v ++ (c ∷ [])))) in
       then_on {N = length ((w ++ (y ++ (v ++ (c ∷ [])))) ++ rest) < n} (ap (λ (q : Tokens). comes (sign s.OpenRound) q) (append_assoc w (y ++ (v ++ (c ∷ []))) rest) ∙ with_opens t w d (with_word t w d m it) ((y ++ (v ++ (c ∷ []))) ++ rest)) _ _
       (part (less (with_body_all t it)) m (y ++ (v ++ (c ∷ []))) rest _ tt
       (λ short. ap (λ (q : Tokens). and_then (b.rest t.start d q) (held_from n b)) (append_assoc y (v ++ (c ∷ [])) rest)

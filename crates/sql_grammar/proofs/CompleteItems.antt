@@ -1,39 +1,35 @@
 -- Items of a select list are read, and the word EXCEPT behind a `*`, which may be that of a set operation.
-use Rattle.std.proofs.Common.{◌≡◌, ◌⊎◌, inl, inr, ℕ, zero, suc, ◌<◌, ◌≤◌, Bool, true, false, List, [], ◌∷◌, ◌++◌, length, Option, Some, None, refl, sym, ◌∙◌, ap, subst, arith}
-use Rattle.std.proofs.lemmas.List.{append_assoc, append-nil, length-append}
-use Rattle.fronts.specs.Fronts.{Language}
-use Rattle.fronts.specs.Readers.{Outcome, taken, ◌>>=◌, and_then, pure, comes, next, many}
-use Rattle.fronts.proofs.Agrees.{Many, many_none, many_more, Found}
+use Rattle.std.proofs.Common.{◌≡◌, ◌⊎◌, inl, inr, ℕ, zero, suc, ◌<◌, ◌≤◌, Bool, true, false, List, [], ◌∷◌, ◌++◌, length, Option, Some, None, refl, sym, ◌∙◌, ap, arith}
+use Rattle.std.proofs.lemmas.List.{append_assoc, length-append}
+use Rattle.fronts.specs.Readers.{Outcome, taken, and_then, comes, next}
+use Rattle.fronts.proofs.Agrees.{Many, many_none, many_more}
 use Rattle.sql_ast.specs.declared.clauses.Edit.{Edit}
 use Rattle.sql_ast.specs.declared.clauses.Item.{Item}
 use Rattle.sql_ast.specs.declared.clauses.Item.TheVariants as item_kind
 use Rattle.sql_ast.specs.declared.clauses.Name.{Name}
 use Rattle.sql_ast.specs.declared.clauses.Replacement.{Replacement}
 use Rattle.sql_ast.specs.declared.expr.Expr.{Expr}
-use Rattle.sql_ast.specs.declared.words.Reserved.{Reserved}
 use Rattle.sql_ast.specs.declared.words.Reserved.TheVariants as r
 use Rattle.sql_ast.specs.declared.words.Sign.TheVariants as s
 use Rattle.sql_ast.specs.declared.words.Word.TheVariants as w
 use Rattle.sql_ast.specs.declared.token.Token.{Token}
 use Rattle.sql_ast.specs.declared.token.Lexeme.{Lexeme}
 use Rattle.sql_ast.specs.declared.token.Lexeme.TheVariants as l
-use Rattle.sql_ast.specs.Marks.{Tokens, Is, reserved, sign, word, same_reserved, reserved_lexeme, start_of}
-use Rattle.sql_ast.specs.Parts.{AliasOf, NamesOf, names_are}
-use Rattle.sql_ast.specs.Grammar.{ExprOf, PostfixOf, ItemOf, item_star, item_qualified, item_expr, EditOf, edit_is, ExceptOf, except_none, except_is, ReplaceOf, replace_none, replace_is, ReplacementOf, replacement_is, ReplacementsOf, replacements_none, replacements_more}
-use Rattle.sql_grammar.specs.Ways.{Parser, starting}
-use Rattle.sql_grammar.specs.Classes.{class_of, basic_reserved, ItemStart, item_by_star, item_by_prefix, item_by_basic, no_item, item_class}
+use Rattle.sql_ast.specs.Marks.{Tokens, Is, reserved, sign, same_reserved, reserved_lexeme, start_of}
+use Rattle.sql_ast.specs.Parts.{AliasOf, names_are}
+use Rattle.sql_ast.specs.Grammar.{ExprOf, PostfixOf, ItemOf, item_star, item_qualified, item_expr, EditOf, edit_is, except_none, except_is, ReplaceOf, replace_none, replace_is, ReplacementOf, replacement_is, ReplacementsOf, replacements_none, replacements_more}
+use Rattle.sql_grammar.specs.Classes.{class_of, item_by_prefix, item_by_basic, no_item, item_class}
 use Rattle.sql_grammar.specs.Exprs.{Below, postfix_or_star, expr_from}
-use Rattle.sql_grammar.specs.Words.{alias, names}
 use Rattle.sql_grammar.specs.Queries.{replacement, comma_replacement, replaces, except_or_end, edited, aliased, item_after, item_by, item_or_except}
 use Rattle.sql_grammar.proofs.Marks.{AfterOf, after_of}
 use Rattle.sql_grammar.proofs.Ways.{start_front}
-use Rattle.sql_grammar.proofs.Solid.{solid_postfix, solid_expr, no_expr}
-use Rattle.sql_grammar.proofs.Follows.{Over, Starts, level, rank, is_reserved}
-use Rattle.sql_grammar.proofs.CompleteSteps.{Read, Free, Not, less, under, tok, also, part, last, only, then_on, else_on, peeked, done, weak, refute, over_r, over_s, over_not_r, over_not_w, r_test, s_test, w_test, after_read, after_begins, over_many, comma_level, many_ahead, Ahead, to, on}
+use Rattle.sql_grammar.proofs.Solid.{solid_postfix, no_expr}
+use Rattle.sql_grammar.proofs.Follows.{Over, Starts, rank}
+use Rattle.sql_grammar.proofs.CompleteSteps.{Read, Free, less, under, tok, also, part, last, then_on, else_on, peeked, done, weak, over_r, over_s, over_not_w, s_test, w_test, after_read, after_begins, over_many, comma_level, to}
 use Rattle.sql_grammar.proofs.CompleteStarts.{postfix_starts, expr_starts}
-use Rattle.sql_grammar.proofs.CompleteRepeats.{begun, begun_only}
+use Rattle.sql_grammar.proofs.CompleteRepeats.{begun_only}
 use Rattle.sql_grammar.proofs.CompleteWords.{alias_read, alias_ahead, over_no_alias, names_read}
-use Rattle.sql_grammar.proofs.CompleteFronts.{FrontPart, expr_front}
+use Rattle.sql_grammar.proofs.CompleteFronts.{expr_front}
 use Rattle.sql_grammar.proofs.CompleteParts.{Reading}
 use Rattle.sql_grammar.proofs.CompleteStars.{postfix_plain, postfix_starred}
 use Rattle.sql_grammar.proofs.CompleteBehind.{behind_postfix}

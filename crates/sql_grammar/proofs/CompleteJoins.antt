@@ -1,8 +1,7 @@
 -- Joins and FROM are read.
 use Rattle.std.proofs.Common.{◌≡◌, ℕ, suc, ◌<◌, ◌≤◌, ◌||◌, Bool, true, false, List, [], ◌∷◌, ◌++◌, length, Option, Some, None, refl, sym, ◌∙◌, ap, subst, arith}
-use Rattle.std.proofs.lemmas.List.{append_assoc, append-nil}
-use Rattle.fronts.specs.Fronts.{Language}
-use Rattle.fronts.specs.Readers.{Outcome, taken, ◌>>=◌, and_then, pure, refuse, comes, next, many}
+use Rattle.std.proofs.lemmas.List.{append_assoc}
+use Rattle.fronts.specs.Readers.{taken, ◌>>=◌, and_then, pure, refuse, comes, many}
 use Rattle.fronts.proofs.Agrees.{Many, many_none, many_more, Found}
 use Rattle.sql_ast.specs.declared.clauses.On.{On}
 use Rattle.sql_ast.specs.declared.expr.Expr.{Expr}
@@ -11,24 +10,21 @@ use Rattle.sql_ast.specs.declared.query.JoinWord.{JoinWord}
 use Rattle.sql_ast.specs.declared.query.JoinWord.TheVariants as word_kind
 use Rattle.sql_ast.specs.declared.query.Joined.{Joined}
 use Rattle.sql_ast.specs.declared.query.Primary.{Primary}
-use Rattle.sql_ast.specs.declared.words.Reserved.{Reserved}
 use Rattle.sql_ast.specs.declared.words.Reserved.TheVariants as r
 use Rattle.sql_ast.specs.declared.words.Sign.TheVariants as s
 use Rattle.sql_ast.specs.declared.token.Token.{Token}
 use Rattle.sql_ast.specs.declared.token.Lexeme.{Lexeme}
 use Rattle.sql_ast.specs.declared.token.Lexeme.TheVariants as l
 use Rattle.sql_ast.specs.Marks.{Tokens, Is, reserved, sign, same_reserved, same_sign, reserved_lexeme, sign_lexeme, start_of}
-use Rattle.sql_ast.specs.Trees.{joins_freely}
 use Rattle.sql_ast.specs.Parts.{OptionalOf, optional_none, optional_is}
-use Rattle.sql_ast.specs.Grammar.{ExprOf, PrimaryOf, primary_table, primary_query, primary_path, primary_unnest, OnOf, on_expr as is_on_expr, on_using as is_on_using, OnPartOf, on_is, on_missing, JoinOf, join_cross, join_inner, join_plain, join_left, join_right, join_full, JoinsOf, joins_none, joins_comma, joins_join, FromOf, from_are, FromPartOf, from_none, from_is}
-use Rattle.sql_grammar.specs.Ways.{Parser, starting}
-use Rattle.sql_grammar.specs.Classes.{class_of, JoinStart, by_cross, by_inner, by_join, by_left, by_right, by_full, no_join, join_class, is_join, joins, goes_after_comma, comma_or_join}
-use Rattle.sql_grammar.specs.Words.{optional}
+use Rattle.sql_ast.specs.Grammar.{PrimaryOf, primary_table, primary_query, primary_path, primary_unnest, OnOf, on_expr as is_on_expr, on_using as is_on_using, OnPartOf, on_is, on_missing, JoinOf, join_cross, join_inner, join_plain, join_left, join_right, join_full, JoinsOf, joins_none, joins_comma, joins_join, from_are, FromPartOf, from_none, from_is}
+use Rattle.sql_grammar.specs.Ways.{Parser}
+use Rattle.sql_grammar.specs.Classes.{class_of, JoinStart, by_cross, by_inner, by_join, by_left, no_join, join_class, is_join, joins, goes_after_comma, comma_or_join}
 use Rattle.sql_grammar.specs.Exprs.{Below}
 use Rattle.sql_grammar.specs.Queries.{joined_of, on_next, primary_item, on_expr, on_using, condition, on_part, joined_freely, join_freely, join_on, outer_freely, outer_on, cross_behind, join_by, later_by, join_item, comma_behind, comma_join, later_join, from_item, from_part}
 use Rattle.sql_grammar.proofs.Froms.{LaterOf, later_comma, later_is}
 use Rattle.sql_grammar.proofs.Follows.{Over, level}
-use Rattle.sql_grammar.proofs.CompleteSteps.{Read, Free, Not, less, under, tok, also, part, last, only, then_on, else_on, peeked, done, weak, over_r, over_s, over_not_r, r_test, s_test, many_read, Ahead, nothing_ahead, level_ahead, r_ahead, s_ahead, to, on}
+use Rattle.sql_grammar.proofs.CompleteSteps.{Read, Not, less, tok, also, part, last, only, then_on, else_on, peeked, done, weak, over_not_r, r_test, s_test, many_read, Ahead, nothing_ahead, r_ahead, to}
 use Rattle.sql_grammar.proofs.CompleteRepeats.{begun}
 use Rattle.sql_grammar.proofs.CompleteWords.{names_read, optional_read, Stood, stood_not, stood_is}
 use Rattle.sql_grammar.proofs.CompleteParts.{Reading}
@@ -147,13 +143,29 @@ joins_level _ h = absurd cc
 split_joins : (ms : List Joined) (v : Tokens) → JoinsOf false ms v → JoinsSplit ms v
 split_joins _ _ joins_none = record { before = []; text = []; joins_before = many_none; later = []; more = []; joins_later = many_none; all = refl; whole = refl; ends = λ rest h. no_joins rest h }
 split_joins _ _ (joins_comma {t = t} {ms = ms} {u = u} {v = v} i l z) = record {
-  before = []; text = []; joins_before = many_none; later = _; more = t ∷ (u ++ v); joins_later = many_more (later_comma i l) (many_later ms v z); all = refl; whole = refl;
+  before = [];
+  text = [];
+  joins_before = many_none;
+  later = _;
+  more = t ∷ (u ++ v);
+  joins_later = many_more (later_comma i l) (many_later ms v z);
+  all = refl;
+  whole = refl;
   ends = λ rest h. s_test s.Comma (λ x. is_join (join_class x)) i refl;
 }
 split_joins _ _ (joins_join {a = a} {ms = ms} {u = u} {v = v} l z) =
     let g = split_joins ms v z in
-    record { before = a ∷ g.before; text = u ++ g.text; joins_before = many_more l g.joins_before; later = g.later; more = g.more; joins_later = g.joins_later;
-      all = ap (λ (q : List Joined). a ∷ q) g.all; whole = ap (λ (q : Tokens). u ++ q) g.whole ∙ sym (append_assoc u g.text g.more); ends = g.ends }
+    record {
+      before = a ∷ g.before;
+      text = u ++ g.text;
+      joins_before = many_more l g.joins_before;
+      later = g.later;
+      more = g.more;
+      joins_later = g.joins_later;
+      all = ap (λ (q : List Joined). a ∷ q) g.all;
+      whole = ap (λ (q : Tokens). u ++ q) g.whole ∙ sym (append_assoc u g.text g.more);
+      ends = g.ends;
+    }
 
 join_begins : (a : Joined) (u rest : Tokens) → JoinOf false a u → comes joins (u ++ rest) ≡ true
 join_begins _ _ rest (join_cross i j l) = r_test r.Cross (λ x. is_join (join_class x)) i refl

@@ -1,9 +1,9 @@
 -- The levels of expressions from prefixes to `|` read each word, if postfix expressions are read.
-use Rattle.std.proofs.Common.{◌≡◌, ℕ, zero, suc, ◌+◌, ◌<◌, ◌≤◌, ◌||◌, Bool, true, false, List, [], ◌∷◌, ◌++◌, length, Option, Some, None, refl, sym, ◌∙◌, ap, subst, arith}
+use Rattle.std.proofs.Common.{◌≡◌, ℕ, suc, ◌<◌, ◌≤◌, ◌||◌, Bool, true, false, List, [], ◌∷◌, ◌++◌, length, Option, Some, None, refl, sym, ◌∙◌, ap, subst, arith}
 use Rattle.std.proofs.lemmas.List.{append_assoc, append-nil}
 use Rattle.fronts.specs.Fronts.{Language}
-use Rattle.fronts.specs.Readers.{taken, ◌>>=◌, comes, many}
-use Rattle.fronts.proofs.Agrees.{Many, many_none, many_more, Found}
+use Rattle.fronts.specs.Readers.{taken, ◌>>=◌, comes}
+use Rattle.fronts.proofs.Agrees.{Many, many_none, many_more}
 use Rattle.sql_ast.specs.declared.expr.Expr.{Expr}
 use Rattle.sql_ast.specs.declared.expr.Expr.TheVariants as e
 use Rattle.sql_ast.specs.declared.expr.Link.{Link}
@@ -17,18 +17,18 @@ use Rattle.sql_ast.specs.declared.token.Token.{Token}
 use Rattle.sql_ast.specs.declared.token.Lexeme.{Lexeme}
 use Rattle.sql_ast.specs.declared.token.Lexeme.TheVariants as l
 use Rattle.sql_ast.specs.Marks.{Tokens, Is, Says, sign, sign_lexeme, same_sign, closes_shift, start_of}
-use Rattle.sql_ast.specs.Trees.{link, chain, prefixes, prefix_of, prefix_lexeme, product_of, sum_of}
+use Rattle.sql_ast.specs.Trees.{link, chain, prefix_of, prefix_lexeme, product_of, sum_of}
 use Rattle.sql_ast.specs.Parts.{PrefixesOf, prefixes_none, prefixes_more}
 use Rattle.sql_ast.specs.Grammar.{BorOf, bor_is, BorsOf, bors_none, bors_more, BxorOf, bxor_is, BxorsOf, bxors_none, bxors_more, BandOf, band_is, BandsOf, bands_none, bands_more, ShiftOf, shift_is, ShiftsOf, shifts_none, shifts_left, shifts_right, SumOf, sum_is, SumsOf, sums_none, sums_more, ProdOf, prod_is, ProdsOf, prods_none, prods_more, UnaryOf, unary_is, PostfixOf}
-use Rattle.sql_grammar.specs.Ways.{Parser, Ended, until, starting}
+use Rattle.sql_grammar.specs.Ways.{Ended}
 use Rattle.sql_grammar.specs.Exprs.{tells, told, Below, Pending, prefix, settled, shift_next, postfix, unary, product, product_from, sum, sum_from, greater_or_shift, shift_item, shift, shift_from, band, band_from, bxor, bxor_from, bor_pending, bor_from, bor}
 use Rattle.sql_grammar.proofs.Marks.{told_is, tells_is}
 use Rattle.sql_grammar.proofs.Levels.{LinkOf, link_of}
 use Rattle.sql_grammar.proofs.Solid.{solid_unary, solid_prod, solid_sum, solid_shift, solid_band, solid_bxor}
 use Rattle.sql_grammar.proofs.Follows.{Over, Starts, level, rank}
 use Rattle.sql_grammar.proofs.CompleteSteps.{Read, Free, Not, less, tok, also, part, last, then_on, else_on, done, weak, to, s_test, free_many}
-use Rattle.sql_grammar.proofs.CompleteStarts.{postfix_starts, product_level, sum_level, s_level, says_product, says_sum, shifts_ahead}
-use Rattle.sql_grammar.proofs.CompleteRepeats.{begun, One, one, Gone, GoneTo, gone_to, until_read, until_to_read}
+use Rattle.sql_grammar.proofs.CompleteStarts.{postfix_starts, product_level, sum_level, s_level, shifts_ahead}
+use Rattle.sql_grammar.proofs.CompleteRepeats.{begun, One, one, gone_to, until_read, until_to_read}
 use Rattle.sql_grammar.proofs.CompleteChains.{chain_read, PlainOf, plain_of, EndsIn, ends_in, Pends, plain_chain, greater_chain}
 
 -- ---- repetitions as lists of their items

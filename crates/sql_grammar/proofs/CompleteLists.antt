@@ -1,8 +1,7 @@
 -- Select lists are read: with a comma behind them, and with the word EXCEPT that was read behind a last `*`.
-use Rattle.std.proofs.Common.{◌≡◌, ◌⊎◌, inl, inr, ℕ, zero, suc, ◌<◌, ◌≤◌, Bool, true, false, List, [], ◌∷◌, ◌++◌, length, Option, Some, None, refl, sym, ◌∙◌, ap, subst, arith}
+use Rattle.std.proofs.Common.{◌≡◌, inl, inr, ℕ, suc, ◌<◌, ◌≤◌, true, false, List, [], ◌∷◌, ◌++◌, length, Option, Some, None, refl, sym, ◌∙◌, ap, subst, arith}
 use Rattle.std.proofs.lemmas.List.{append_assoc, append-nil, length-append}
-use Rattle.fronts.specs.Fronts.{Language}
-use Rattle.fronts.specs.Readers.{Outcome, taken, ◌>>=◌, and_then, comes}
+use Rattle.fronts.specs.Readers.{Outcome, taken, and_then, comes}
 use Rattle.fronts.proofs.Agrees.{Many, many_none, many_more}
 use Rattle.sql_ast.specs.declared.clauses.Item.{Item}
 use Rattle.sql_ast.specs.declared.expr.Expr.{Expr}
@@ -21,9 +20,9 @@ use Rattle.sql_grammar.proofs.Marks.{AfterOf, after_of}
 use Rattle.sql_grammar.proofs.Follows.{Over, Starts, level, rank}
 use Rattle.sql_grammar.proofs.CompleteSteps.{Read, tok, then_on, else_on, done, weak, over_s, over_not_s, s_test, after_begins}
 use Rattle.sql_grammar.proofs.CompleteStarts.{postfix_starts, expr_starts}
-use Rattle.sql_grammar.proofs.CompleteRepeats.{One, one, Came, until_stop, until_end, until_next, until_goes, LastApart, last_apart}
+use Rattle.sql_grammar.proofs.CompleteRepeats.{One, one, Came, until_stop, until_end, until_next, until_goes, last_apart}
 use Rattle.sql_grammar.proofs.CompleteParts.{Reading}
-use Rattle.sql_grammar.proofs.CompleteItems.{NoEdit, KeptBy, Kept, kept_none, item_by_rest}
+use Rattle.sql_grammar.proofs.CompleteItems.{NoEdit, Kept, kept_none, item_by_rest}
 
 -- ---- what may begin an item, and what doesn't
 

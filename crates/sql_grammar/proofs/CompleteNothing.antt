@@ -1,8 +1,8 @@
 -- Where nothing goes on, what goes on behind an expression is nothing; and with which tokens brackets begin that hold
 -- something.
-use Rattle.std.proofs.Common.{◌≡◌, ℕ, zero, suc, ◌<◌, ◌≤◌, Bool, true, false, List, [], ◌∷◌, ◌++◌, length, Option, Some, None, refl, sym, ◌∙◌, ap, subst, arith}
+use Rattle.std.proofs.Common.{◌≡◌, ℕ, zero, suc, Bool, true, false, List, [], ◌∷◌, ◌++◌, Option, Some, None, refl, ◌∙◌, ap, subst, arith}
 use Rattle.std.proofs.lemmas.List.{append_assoc}
-use Rattle.fronts.specs.Readers.{Outcome, taken, ◌>>=◌, and_then, comes, next, many, token}
+use Rattle.fronts.specs.Readers.{taken, ◌>>=◌, and_then, comes, many}
 use Rattle.sql_ast.specs.declared.expr.Expr.{Expr}
 use Rattle.sql_ast.specs.declared.expr.Expr.TheVariants as e
 use Rattle.sql_ast.specs.declared.expr.Link.{Link}
@@ -10,27 +10,24 @@ use Rattle.sql_ast.specs.declared.expr.Operator.{Operator}
 use Rattle.sql_ast.specs.declared.expr.Operator.TheVariants as operator
 use Rattle.sql_ast.specs.declared.expr.Part.{Part}
 use Rattle.sql_ast.specs.declared.query.Query.{Query}
-use Rattle.sql_ast.specs.declared.words.Reserved.{Reserved}
 use Rattle.sql_ast.specs.declared.words.Reserved.TheVariants as r
-use Rattle.sql_ast.specs.declared.words.Sign.{Sign}
 use Rattle.sql_ast.specs.declared.words.Sign.TheVariants as s
 use Rattle.sql_ast.specs.declared.words.Word.TheVariants as w
 use Rattle.sql_ast.specs.declared.token.Token.{Token}
 use Rattle.sql_ast.specs.declared.token.Lexeme.{Lexeme}
-use Rattle.sql_ast.specs.declared.token.Lexeme.TheVariants as l
-use Rattle.sql_ast.specs.Marks.{Tokens, Is, reserved, sign, same_reserved, same_sign, reserved_lexeme, sign_lexeme, integer_lexeme, text_lexeme, bytes_lexeme, parameter_lexeme}
+use Rattle.sql_ast.specs.Marks.{Tokens, Is, reserved, sign, same_sign, sign_lexeme, integer_lexeme, text_lexeme, bytes_lexeme, parameter_lexeme}
 use Rattle.sql_ast.specs.Trees.{chain, path, function_lexeme, product_of, sum_of}
 use Rattle.sql_ast.specs.Grammar.{ExprOf, PostfixOf, postfix_is, BasicOf, basic_integer, basic_string, basic_bytes, basic_true, basic_false, basic_null, basic_date, basic_parameter, basic_name, basic_call, basic_safe_call, basic_group, basic_query, basic_tuple, basic_case, basic_cast, basic_safe_cast, basic_extract, basic_grouping, basic_exists, basic_array_query, basic_array, basic_array_word, basic_array_typed, basic_struct, basic_typed_struct, basic_with, ArrayItemsOf, array_empty, array_items, QueryOf, query_is, ctes_none, ctes_are, body_is, term_select, term_query, select_is}
-use Rattle.sql_grammar.specs.Ways.{Parser, Ended, until}
+use Rattle.sql_grammar.specs.Ways.{Parser, Ended}
 use Rattle.sql_grammar.specs.Classes.{class_of, comparison_class, no_comparison}
 use Rattle.sql_grammar.specs.Exprs.{tells, told, Below, Pending, part_next, shift_next, linked, linked_pending, part_or_star, postfix_from, chain_from, pending_from, product_from, sum_from, shift_item, shift_from, band_from, bxor_from, bor_from, compared, compared_by, conjunction_from, disjunction_from, expr_from, expr_after, unary, product, shift, band, bxor, negation, conjunction}
 use Rattle.sql_grammar.proofs.Solid.{solid_basic}
-use Rattle.sql_grammar.proofs.Follows.{Over, Starts, level, is_reserved, is_sign, is_named, is_word}
+use Rattle.sql_grammar.proofs.Follows.{Over, level, is_reserved, is_sign, is_named, is_word}
 use Rattle.sql_grammar.proofs.CompleteSteps.{apart, else_on, done, peeked, weak, refute, r_test, s_test, over_not_s, over_not_r, starts_not_s}
 use Rattle.sql_grammar.proofs.CompleteStarts.{product_level, sum_level, expr_starts, list_starts, starts_s}
 use Rattle.sql_grammar.proofs.CompleteRepeats.{until_stop}
 use Rattle.sql_grammar.proofs.CompleteLevels.{shift_level}
-use Rattle.sql_grammar.proofs.CompleteFronts.{FrontPart, expr_front}
+use Rattle.sql_grammar.proofs.CompleteFronts.{expr_front}
 use Rattle.sql_grammar.proofs.CompleteComparisons.{no_comparison_next}
 use Rattle.sql_grammar.proofs.CompletePostfix.{no_part}
 use Rattle.sql_grammar.proofs.CompleteTails.{call_function}

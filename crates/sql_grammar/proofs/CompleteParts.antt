@@ -1,8 +1,7 @@
 -- What the readers of less depth read, and the parts of expressions in brackets.
-use Rattle.std.proofs.Common.{◌≡◌, ℕ, suc, ◌<◌, ◌≤◌, Bool, true, false, List, [], ◌∷◌, ◌++◌, length, Option, Some, None, refl, sym, ◌∙◌, ap, subst, arith}
+use Rattle.std.proofs.Common.{◌≡◌, ℕ, suc, ◌<◌, List, [], ◌∷◌, ◌++◌, length, Option, refl, sym, subst, arith}
 use Rattle.std.proofs.lemmas.List.{append_assoc}
-use Rattle.fronts.specs.Fronts.{Language}
-use Rattle.fronts.specs.Readers.{taken, ◌>>=◌, comes, many, token}
+use Rattle.fronts.specs.Readers.{taken, ◌>>=◌, many}
 use Rattle.fronts.proofs.Agrees.{Many, many_none, many_more, Found}
 use Rattle.sql_ast.specs.declared.clauses.LimitPart.{LimitPart}
 use Rattle.sql_ast.specs.declared.clauses.Sort.{Sort}
@@ -19,12 +18,11 @@ use Rattle.sql_ast.specs.declared.token.Token.{Token}
 use Rattle.sql_ast.specs.Marks.{Tokens, Is, reserved, sign}
 use Rattle.sql_ast.specs.Parts.{LimitOf}
 use Rattle.sql_ast.specs.Grammar.{BasicOf, ExprOf, QueryOf, ListOf, list_is, CommasOf, commas_none, commas_more, SetTermsOf, OrderOf}
-use Rattle.sql_grammar.specs.Ways.{Parser}
 use Rattle.sql_grammar.specs.Exprs.{Below, with_read, term_read, after, bracketed, bracketed_query, list_closed, list}
 use Rattle.sql_grammar.proofs.Marks.{AfterOf, after_of}
 use Rattle.sql_grammar.proofs.Calls.{Bracketed, bracketed_is, Placed, placed_is, Closed, closed_is}
 use Rattle.sql_grammar.proofs.Follows.{Over, sign_level}
-use Rattle.sql_grammar.proofs.CompleteSteps.{Read, Free, less, tok, also, part, last, only, done, weak, over_s, after_read, after_begins, over_many, comma_level, many_ahead, Ahead}
+use Rattle.sql_grammar.proofs.CompleteSteps.{Read, Free, less, tok, also, part, only, done, over_s, after_read, after_begins, over_many, comma_level, many_ahead, Ahead}
 
 -- a query behind its first term, with no CTEs
 pub data TermMore (a : Term) (p : ℕ) : Query → Tokens → Type 0 where

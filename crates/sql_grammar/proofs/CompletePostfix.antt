@@ -1,15 +1,10 @@
 -- Basic expressions with the parts that are read with them, and postfix expressions, are read; also one before `.*`.
-use Rattle.std.proofs.Common.{◌≡◌, ◌⊎◌, inl, inr, ℕ, suc, ◌<◌, ◌≤◌, ◌||◌, ◌&&◌, Bool, true, false, List, [], ◌∷◌, ◌++◌, length, Option, Some, None, refl, sym, ◌∙◌, ap, subst, arith}
-use Rattle.std.proofs.lemmas.List.{append_assoc, append-nil, length-append}
-use Rattle.fronts.specs.Fronts.{Language}
-use Rattle.fronts.specs.Readers.{Outcome, taken, ◌>>=◌, and_then, pure, comes, next}
+use Rattle.std.proofs.Common.{◌≡◌, ◌⊎◌, inl, inr, ℕ, suc, ◌<◌, ◌≤◌, ◌||◌, Bool, true, false, List, [], ◌∷◌, ◌++◌, length, Some, None, refl, sym, ◌∙◌, ap, subst, arith}
+use Rattle.fronts.specs.Readers.{Outcome, taken, and_then, comes, next}
 use Rattle.fronts.proofs.Agrees.{Many, many_none, many_more}
 use Rattle.sql_ast.specs.declared.clauses.Call.{Call}
-use Rattle.sql_ast.specs.declared.clauses.Function.{Function}
 use Rattle.sql_ast.specs.declared.expr.Expr.{Expr}
 use Rattle.sql_ast.specs.declared.expr.Expr.TheVariants as e
-use Rattle.sql_ast.specs.declared.expr.IndexForm.{IndexForm}
-use Rattle.sql_ast.specs.declared.expr.IndexForm.TheVariants as form
 use Rattle.sql_ast.specs.declared.expr.Part.{Part}
 use Rattle.sql_ast.specs.declared.expr.Part.TheVariants as part_kind
 use Rattle.sql_ast.specs.declared.words.Reserved.TheVariants as r
@@ -18,21 +13,17 @@ use Rattle.sql_ast.specs.declared.words.Word.TheVariants as w
 use Rattle.sql_ast.specs.declared.token.Token.{Token}
 use Rattle.sql_ast.specs.declared.token.Lexeme.{Lexeme}
 use Rattle.sql_ast.specs.declared.token.Lexeme.TheVariants as l
-use Rattle.sql_ast.specs.Marks.{Tokens, Is, Says, reserved, sign, word, named, spelled, content, text, integer_lexeme, text_lexeme, bytes_lexeme, parameter_lexeme, same_reserved, same_word, same_sign, reserved_lexeme, sign_lexeme, name_lexeme, start_of}
-use Rattle.sql_ast.specs.Trees.{name_at, function_of, function_lexeme, form_of, path}
-use Rattle.sql_ast.specs.Grammar.{ExprOf, PostfixOf, postfix_is, PartsOf, parts_none, parts_more, PartOf, part_field, part_index, BasicOf, basic_integer, basic_string, basic_bytes, basic_true, basic_false, basic_null, basic_date, basic_parameter, basic_name, basic_call, basic_safe_call, basic_group, basic_query, basic_tuple, basic_case, basic_cast, basic_safe_cast, basic_extract, basic_grouping, basic_exists, basic_array_query, basic_array, basic_array_word, basic_array_typed, basic_struct, basic_typed_struct, basic_with, ArrayItemsOf, array_empty, array_items, CallOf, call_is}
-use Rattle.sql_grammar.specs.Ways.{Parser, Ended, until, starting}
-use Rattle.sql_grammar.specs.Classes.{class_of, basic_lexeme, name_class, BasicStart, NameWord, an_integer, a_string, a_bytes, a_true, a_false, a_null, a_parameter, a_name, an_if, a_bracket, a_case, a_cast, an_extract, a_grouping, an_exists, an_array, a_square, a_struct, a_with, no_basic, the_date, the_safe, plain_name}
-use Rattle.sql_grammar.specs.Exprs.{tells, told, starred, part_next, Below, call_of, called, safe_part, name_by, name_opened, index, field_or_star, part_or_star, parts_from, group, case, cast, extract, grouping, exists, array_from, array, struct, with_expr, basic_by, opened_by, opened, postfix_or_star, postfix}
-use Rattle.sql_grammar.proofs.Marks.{told_is, tells_is}
+use Rattle.sql_ast.specs.Marks.{Tokens, Is, sign, named, spelled, content, text, integer_lexeme, text_lexeme, bytes_lexeme, parameter_lexeme, same_reserved, same_word, same_sign, reserved_lexeme, sign_lexeme, name_lexeme}
+use Rattle.sql_ast.specs.Trees.{name_at, function_lexeme}
+use Rattle.sql_ast.specs.Grammar.{PartsOf, parts_none, parts_more, PartOf, part_field, part_index, BasicOf, basic_integer, basic_string, basic_bytes, basic_true, basic_false, basic_null, basic_date, basic_parameter, basic_name, basic_call, basic_safe_call, basic_group, basic_query, basic_tuple, basic_case, basic_cast, basic_safe_cast, basic_extract, basic_grouping, basic_exists, basic_array_query, basic_array, basic_array_word, basic_array_typed, basic_struct, basic_typed_struct, basic_with, ArrayItemsOf, array_empty, array_items, CallOf, call_is}
+use Rattle.sql_grammar.specs.Ways.{Ended}
+use Rattle.sql_grammar.specs.Classes.{class_of, basic_lexeme, name_class, BasicStart, NameWord, an_integer, a_string, a_bytes, a_true, a_false, a_null, a_parameter, an_if, a_bracket, a_case, a_cast, an_extract, a_grouping, an_exists, an_array, a_square, a_struct, a_with, no_basic, the_date, the_safe, plain_name}
+use Rattle.sql_grammar.specs.Exprs.{starred, part_next, Below, called, safe_part, name_by, name_opened, basic_by, opened_by, opened}
 use Rattle.sql_grammar.proofs.Exprs.{named_word}
-use Rattle.sql_grammar.proofs.Calls.{bracketed_is}
-use Rattle.sql_grammar.proofs.Solid.{solid_basic}
-use Rattle.sql_grammar.proofs.Follows.{Over, Starts, level, rank, is_named, is_word}
-use Rattle.sql_grammar.proofs.CompleteSteps.{Read, Free, Not, less, tok, also, part, last, only, then_on, else_on, peeked, done, weak, refute, over_s, over_not_s, r_test, s_test, n_test, w_test, to}
+use Rattle.sql_grammar.proofs.Follows.{Over, level}
+use Rattle.sql_grammar.proofs.CompleteSteps.{also, then_on, else_on, peeked, done, over_not_s, r_test, s_test, n_test, w_test}
 use Rattle.sql_grammar.proofs.CompleteStarts.{parts_ahead}
-use Rattle.sql_grammar.proofs.CompleteRepeats.{begun, begun_only, One, one, Gone, GoneTo, gone_to, until_read, until_to_read}
-use Rattle.sql_grammar.proofs.CompleteParts.{Reading, bracketed_read}
+use Rattle.sql_grammar.proofs.CompleteParts.{Reading}
 use Rattle.sql_grammar.proofs.CompleteTails.{call_behind, called_read, safe_cast_read, call_function}
 use Rattle.sql_grammar.proofs.CompleteBasics.{case_read, cast_read, extract_read, grouping_read, exists_read, array_from_read, array_query_read, array_word_read, array_typed_read, struct_read, typed_struct_read, with_read_by}
 use Rattle.sql_grammar.proofs.CompleteHeld.{group_read, scalar_read, tuple_read}

@@ -1,15 +1,12 @@
 -- Tables, subqueries, paths and UNNEST in FROM are read, with their aliases, PIVOT and UNPIVOT.
-use Rattle.std.proofs.Common.{◌≡◌, ℕ, suc, ◌<◌, ◌≤◌, ◌||◌, Bool, true, false, List, [], ◌∷◌, ◌++◌, length, Option, Some, None, refl, sym, ◌∙◌, ap, subst, arith}
-use Rattle.std.proofs.lemmas.List.{append_assoc, append-nil}
-use Rattle.fronts.specs.Fronts.{Language}
-use Rattle.fronts.specs.Readers.{Outcome, taken, ◌>>=◌, comes, next, many}
+use Rattle.std.proofs.Common.{◌≡◌, ℕ, suc, ◌<◌, ◌||◌, true, false, List, [], ◌∷◌, ◌++◌, length, Option, Some, refl, sym, ◌∙◌, ap, subst, arith}
+use Rattle.std.proofs.lemmas.List.{append_assoc}
+use Rattle.fronts.specs.Readers.{taken, many}
 use Rattle.fronts.proofs.Agrees.{Many, many_none, many_more, Found}
 use Rattle.sql_ast.specs.declared.clauses.Aliased.{Aliased}
-use Rattle.sql_ast.specs.declared.clauses.Call.{Call}
 use Rattle.sql_ast.specs.declared.clauses.Name.{Name}
 use Rattle.sql_ast.specs.declared.clauses.PivotCall.{PivotCall}
 use Rattle.sql_ast.specs.declared.clauses.Turn.{Turn}
-use Rattle.sql_ast.specs.declared.clauses.Turn.TheVariants as turn
 use Rattle.sql_ast.specs.declared.clauses.Turned.{Turned}
 use Rattle.sql_ast.specs.declared.clauses.UnpivotColumn.{UnpivotColumn}
 use Rattle.sql_ast.specs.declared.clauses.WithOffset.{WithOffset}
@@ -21,21 +18,19 @@ use Rattle.sql_ast.specs.declared.words.Sign.TheVariants as s
 use Rattle.sql_ast.specs.declared.words.Word.{Word}
 use Rattle.sql_ast.specs.declared.words.Word.TheVariants as w
 use Rattle.sql_ast.specs.declared.token.Token.{Token}
-use Rattle.sql_ast.specs.declared.token.Lexeme.{Lexeme}
-use Rattle.sql_ast.specs.Marks.{Tokens, Is, reserved, sign, word, named, same_reserved, same_word, same_sign, reserved_lexeme, sign_lexeme, word_lexeme, name_lexeme}
+use Rattle.sql_ast.specs.Marks.{Tokens, Is, reserved, sign, word, named, same_reserved, same_word, reserved_lexeme, word_lexeme, name_lexeme}
 use Rattle.sql_ast.specs.Trees.{name_at}
-use Rattle.sql_ast.specs.Parts.{from_alias, AliasOf, FromAliasOf, from_alias_none, NameDotsOf, name_dots_none, name_dots_more, PlaceOf, place_none, place_is, IncludeOf, include_none, include_nulls, exclude_nulls, UnpivotColumnOf, UnpivotCommasOf, unpivot_none, unpivot_more}
-use Rattle.sql_ast.specs.Grammar.{ExprOf, QueryOf, CallOf, PrimaryOf, primary_table, primary_query, primary_path, primary_unnest, TurnedOf, turned_none, turned_is, TurnOf, turn_pivot, turn_unpivot, PivotCallOf, pivot_call as is_pivot_call, PivotCallsOf, pivot_calls_none, pivot_calls_more, PivotValueOf, pivot_value as is_pivot_value, PivotValuesOf, pivot_values_none, pivot_values_more}
-use Rattle.sql_grammar.specs.Ways.{Parser}
-use Rattle.sql_grammar.specs.Classes.{class_of, PrimaryStart, primary_name, primary_bracket, primary_by_unnest, no_primary, primary_class}
-use Rattle.sql_grammar.specs.Words.{name, dotted, comma_column}
+use Rattle.sql_ast.specs.Parts.{from_alias, FromAliasOf, PlaceOf, place_none, place_is, UnpivotColumnOf, UnpivotCommasOf, unpivot_none, unpivot_more}
+use Rattle.sql_ast.specs.Grammar.{PrimaryOf, primary_table, primary_query, primary_path, primary_unnest, TurnedOf, turned_none, turned_is, TurnOf, turn_pivot, turn_unpivot, PivotCallOf, pivot_call as is_pivot_call, PivotCallsOf, pivot_calls_none, pivot_calls_more, PivotValueOf, pivot_value as is_pivot_value, PivotValuesOf, pivot_values_none, pivot_values_more}
+use Rattle.sql_grammar.specs.Classes.{class_of, no_primary, primary_class}
+use Rattle.sql_grammar.specs.Words.{comma_column}
 use Rattle.sql_grammar.specs.Exprs.{Below}
 use Rattle.sql_grammar.specs.Queries.{pivot_call, comma_pivot_call, pivot_value, comma_pivot_value, pivot_behind, pivot, unpivot_behind, unpivot, turned_by, turned, table_or_path, primary_query as read_primary_query, primary_unnest as read_primary_unnest, primary_by, primary_item}
 use Rattle.sql_grammar.proofs.Marks.{AfterOf, after_of}
 use Rattle.sql_grammar.proofs.Words.{name_is}
 use Rattle.sql_grammar.proofs.Calls.{bracketed_is}
 use Rattle.sql_grammar.proofs.Follows.{Over, level, is_word}
-use Rattle.sql_grammar.proofs.CompleteSteps.{Read, Free, Not, Comes, less, under, tok, also, part, last, only, then_on, else_on, peeked, done, weak, over_r, over_s, over_not_r, over_not_s, over_not_w, r_test, s_test, n_test, w_test, after_read, after_begins, over_many, many_read, comma_level, many_ahead, Ahead, nothing_ahead, level_ahead, r_ahead, to, on}
+use Rattle.sql_grammar.proofs.CompleteSteps.{Read, Free, Not, less, tok, also, part, last, then_on, else_on, peeked, done, weak, over_r, over_s, over_not_r, over_not_s, over_not_w, r_test, s_test, n_test, w_test, after_read, after_begins, over_many, many_read, comma_level, many_ahead, Ahead, nothing_ahead, level_ahead, to, on}
 use Rattle.sql_grammar.proofs.CompleteWords.{NoAlias, over_no_alias, over_no_from, alias_read, from_alias_read, alias_ahead, from_alias_ahead, name_read, dotted_read, offset_column_read, place_ahead, include_read, unpivot_column_read, comma_column_read, unpivot_commas}
 use Rattle.sql_grammar.proofs.CompleteParts.{Reading, bracketed_read}
 use Rattle.sql_grammar.proofs.CompleteTails.{call_read}
@@ -140,7 +135,6 @@ module _ (n : ℕ) (b : Below) (x : Reading n b) where
       (also io _ (last (name_read n) (name_is jm) _ tt (also jf _ (last (name_read n) (name_is jk) _ tt (also ji _ (also jd _
       (part (unpivot_column_read n) lx (y ++ (c ∷ e ∷ [])) rest _ (columns_no_as xs y (c ∷ e ∷ []) rest lxs (over_s s.CloseRound jc (omega arith)))
       (part (less (columns_read (a ∷ []))) (xs, lxs, refl) (c ∷ e ∷ []) rest _ (over_s s.CloseRound jc (omega arith)) (also jc _ (also je _ done)))))))))))
-
 
   -- a turn that begins with this word
   data TurnBy (y : Word) : Turn Expr → Tokens → Type 0 where

@@ -1,9 +1,9 @@
 -- Queries are read; and so, depth by depth, each word of the grammar that is shorter than the depth.
-use Rattle.std.proofs.Common.{◌≡◌, ◌⊎◌, inl, inr, ℕ, zero, suc, ◌<◌, ◌≤◌, Bool, true, false, List, [], ◌∷◌, ◌++◌, length, Option, Some, None, refl, sym, ◌∙◌, ap, subst, arith}
+use Rattle.std.proofs.Common.{◌≡◌, inl, inr, ℕ, zero, suc, ◌<◌, ◌≤◌, true, false, List, [], ◌∷◌, ◌++◌, length, Option, Some, None, refl, sym, ◌∙◌, ap, subst, arith}
 use Rattle.std.proofs.lemmas.List.{append_assoc, append-nil, length-append}
 use Rattle.fronts.specs.Fronts.{Language, OneReading}
-use Rattle.fronts.specs.Readers.{Outcome, taken, ◌>>=◌, and_then, token, if_comes, comes, many}
-use Rattle.fronts.proofs.Agrees.{Many, many_none, many_more, Found}
+use Rattle.fronts.specs.Readers.{Outcome, taken, ◌>>=◌, and_then, token, if_comes, comes}
+use Rattle.fronts.proofs.Agrees.{Many, many_none, many_more}
 use Rattle.sql_types.specs.declared.kinds.SetKind.{SetKind}
 use Rattle.sql_ast.specs.declared.clauses.LimitPart.{LimitPart}
 use Rattle.sql_ast.specs.declared.clauses.Sort.{Sort}
@@ -16,20 +16,19 @@ use Rattle.sql_ast.specs.declared.type_spelling.TypeSpelling.{TypeSpelling}
 use Rattle.sql_ast.specs.declared.words.Reserved.TheVariants as r
 use Rattle.sql_ast.specs.declared.words.Sign.TheVariants as s
 use Rattle.sql_ast.specs.declared.token.Token.{Token}
-use Rattle.sql_ast.specs.declared.token.Lexeme.{Lexeme}
 use Rattle.sql_ast.specs.Marks.{Tokens, Is, reserved, sign, same_reserved, same_sign, reserved_lexeme, sign_lexeme, start_of}
-use Rattle.sql_ast.specs.Parts.{LimitOf, TypeOf, type_levels}
-use Rattle.sql_ast.specs.Grammar.{ExprOf, BasicOf, QueryOf, query_is, CtesOf, ctes_none, ctes_are, CteCommasOf, cte_commas_none, cte_commas_more, CteOf, cte_is, BodyOf, body_is, SetTermsOf, TermOf, term_select, term_query, SelectOf, select_is, OrderOf, TextOf, text_is, text_semicolon}
-use Rattle.sql_grammar.specs.Ways.{Parser, starting}
-use Rattle.sql_grammar.specs.Words.{limit, whole_type, levels_below}
-use Rattle.sql_grammar.specs.Exprs.{Below, with_read, term_read, order, disjunction, expr_after}
+use Rattle.sql_ast.specs.Parts.{LimitOf, TypeOf}
+use Rattle.sql_ast.specs.Grammar.{ExprOf, QueryOf, query_is, ctes_none, ctes_are, CteCommasOf, cte_commas_none, cte_commas_more, CteOf, cte_is, body_is, SetTermsOf, TermOf, term_select, term_query, select_is, OrderOf, TextOf, text_is, text_semicolon}
+use Rattle.sql_grammar.specs.Ways.{Parser}
+use Rattle.sql_grammar.specs.Words.{limit, levels_below}
+use Rattle.sql_grammar.specs.Exprs.{Below, term_read, order}
 use Rattle.sql_grammar.specs.Queries.{term_or_except, sets_from, query_end, cte, comma_cte, query_body, query_with, query_whole, query_more}
 use Rattle.sql_grammar.specs.Knot.{below, expr_at, query_at, text_at, written_type_at}
 use Rattle.sql_grammar.proofs.Marks.{AfterOf, after_of}
 use Rattle.sql_grammar.proofs.Ways.{start_front}
 use Rattle.sql_grammar.proofs.Follows.{Over}
-use Rattle.sql_grammar.proofs.CompleteSteps.{Read, Free, Not, less, tok, also, part, last, only, then_on, else_on, done, weak, over_end, over_s, over_not_s, r_test, s_test, after_read, after_begins, free_many, Ahead, to}
-use Rattle.sql_grammar.proofs.CompleteRepeats.{begun, begun_only}
+use Rattle.sql_grammar.proofs.CompleteSteps.{Read, Free, Not, less, tok, also, part, last, then_on, else_on, done, weak, over_end, over_s, r_test, s_test, after_read, after_begins, free_many, to}
+use Rattle.sql_grammar.proofs.CompleteRepeats.{begun}
 use Rattle.sql_grammar.proofs.CompleteWords.{limit_read, limit_ahead}
 use Rattle.sql_grammar.proofs.CompleteTypes.{whole_type_read}
 use Rattle.sql_grammar.proofs.CompleteParts.{Reading, TermMore, term_more_is}
@@ -37,7 +36,7 @@ use Rattle.sql_grammar.proofs.CompleteCalls.{order_read, order_ahead}
 use Rattle.sql_grammar.proofs.CompleteHeld.{both_ahead, sets_ahead}
 use Rattle.sql_grammar.proofs.CompleteStars.{expr_read}
 use Rattle.sql_grammar.proofs.CompleteBehind.{behind_with}
-use Rattle.sql_grammar.proofs.CompleteItems.{NoEdit, KeptBy, Kept}
+use Rattle.sql_grammar.proofs.CompleteItems.{NoEdit, Kept}
 use Rattle.sql_grammar.proofs.CompleteSelects.{term_by}
 use Rattle.sql_grammar.proofs.CompleteSets.{sets_no_edit, sets_none, sets_some}
 

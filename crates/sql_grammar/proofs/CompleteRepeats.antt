@@ -1,14 +1,14 @@
 -- Repetitions that an item may end read each word, and what begins at a place.
-use Rattle.std.proofs.Common.{◌≡◌, ℕ, zero, suc, ◌+◌, ◌<◌, ◌≤◌, Bool, true, false, cond, List, [], ◌∷◌, ◌++◌, length, Option, Some, None, refl, sym, ◌∙◌, ap, subst, arith}
+use Rattle.std.proofs.Common.{◌≡◌, ℕ, zero, suc, ◌<◌, ◌≤◌, Bool, true, false, List, [], ◌∷◌, ◌++◌, length, Some, None, refl, sym, ◌∙◌, ap, subst, arith}
 use Rattle.std.proofs.lemmas.List.{append_assoc, append-nil, length-append}
 use Rattle.fronts.specs.Fronts.{Language}
-use Rattle.fronts.specs.Readers.{Outcome, taken, stuck, and_then, comes, next}
+use Rattle.fronts.specs.Readers.{Outcome, taken, and_then, comes}
 use Rattle.fronts.proofs.Agrees.{Many, many_none, many_more}
 use Rattle.sql_ast.specs.declared.token.Token.{Token}
 use Rattle.sql_ast.specs.Marks.{Tokens, start_of}
-use Rattle.sql_grammar.specs.Ways.{Parser, Ended, until, starting, place_of}
+use Rattle.sql_grammar.specs.Ways.{Parser, Ended, until, starting}
 use Rattle.sql_grammar.proofs.Ways.{start_next}
-use Rattle.sql_grammar.proofs.CompleteSteps.{Read, part, then_on, else_on, done}
+use Rattle.sql_grammar.proofs.CompleteSteps.{Read, then_on, else_on, done}
 
 -- ---- what begins at a place
 

@@ -1,38 +1,36 @@
 -- SELECT and terms are read, and the word EXCEPT that was read behind them.
-use Rattle.std.proofs.Common.{◌≡◌, ◌⊎◌, inl, inr, ℕ, suc, ◌<◌, ◌≤◌, Bool, true, false, List, [], ◌∷◌, ◌++◌, length, Option, Some, None, refl, sym, ◌∙◌, ap, subst, arith}
-use Rattle.std.proofs.lemmas.List.{append_assoc, append-nil, length-append}
-use Rattle.fronts.specs.Fronts.{Language}
-use Rattle.fronts.specs.Readers.{Outcome, taken, ◌>>=◌, and_then, comes}
+use Rattle.std.proofs.Common.{◌≡◌, inl, inr, ℕ, suc, ◌<◌, ◌≤◌, Bool, true, false, List, [], ◌∷◌, ◌++◌, length, Option, Some, None, refl, sym, ◌∙◌, ap, subst, arith}
+use Rattle.std.proofs.lemmas.List.{append_assoc, length-append}
+use Rattle.fronts.specs.Readers.{Outcome, taken, and_then, comes}
 use Rattle.sql_ast.specs.declared.clauses.FilterPart.{FilterPart}
 use Rattle.sql_ast.specs.declared.clauses.Item.{Item}
 use Rattle.sql_ast.specs.declared.expr.Expr.{Expr}
 use Rattle.sql_ast.specs.declared.grouping.Groups.{Groups}
 use Rattle.sql_ast.specs.declared.query.FromItem.{FromItem}
-use Rattle.sql_ast.specs.declared.query.Select.{Select, roll-Select}
+use Rattle.sql_ast.specs.declared.query.Select.{Select}
 use Rattle.sql_ast.specs.declared.query.Term.{Term}
 use Rattle.sql_ast.specs.declared.query.Term.TheVariants as term
 use Rattle.sql_ast.specs.declared.words.Reserved.{Reserved}
 use Rattle.sql_ast.specs.declared.words.Reserved.TheVariants as r
 use Rattle.sql_ast.specs.declared.words.Sign.TheVariants as s
 use Rattle.sql_ast.specs.declared.token.Token.{Token}
-use Rattle.sql_ast.specs.declared.token.Lexeme.{Lexeme}
 use Rattle.sql_ast.specs.declared.token.Lexeme.TheVariants as l
 use Rattle.sql_ast.specs.Marks.{Tokens, Is, reserved, sign, same_reserved, same_sign, reserved_lexeme, sign_lexeme}
-use Rattle.sql_ast.specs.Parts.{SelectDistinctOf, AsStructOf, as_struct_none, as_struct_is}
-use Rattle.sql_ast.specs.Grammar.{ExprOf, ItemOf, item_star, item_qualified, item_expr, ItemsOf, FromPartOf, from_none, from_is, WhereOf, where_none, where_is, GroupByOf, group_none, group_is, HavingOf, having_none, having_is, SelectOf, select_is, TermOf, term_select, term_query}
-use Rattle.sql_grammar.specs.Ways.{Parser, Ended}
+use Rattle.sql_ast.specs.Parts.{AsStructOf, as_struct_none, as_struct_is}
+use Rattle.sql_ast.specs.Grammar.{ItemOf, item_star, item_qualified, item_expr, FromPartOf, from_none, from_is, WhereOf, where_none, where_is, GroupByOf, group_none, group_is, HavingOf, having_none, having_is, SelectOf, select_is, TermOf, term_select, term_query}
+use Rattle.sql_grammar.specs.Ways.{Ended}
 use Rattle.sql_grammar.specs.Exprs.{Below}
-use Rattle.sql_grammar.specs.Queries.{ItemsEnd, select_of, items, from_part, where_part, group_by, having_part, clauses, select_end, select_or_except, term_or_except}
+use Rattle.sql_grammar.specs.Queries.{ItemsEnd, select_of, items, where_part, having_part, clauses, select_end, select_or_except, term_or_except}
 use Rattle.sql_grammar.proofs.Marks.{after_of}
-use Rattle.sql_grammar.proofs.Follows.{Over, Starts, sign_rank}
-use Rattle.sql_grammar.proofs.CompleteSteps.{Read, Free, Not, less, tok, also, part, last, only, then_on, else_on, done, weak, over_s, over_not_r, starts_not_r, r_test, s_test, Ahead, nothing_ahead, r_ahead, to}
+use Rattle.sql_grammar.proofs.Follows.{Over, Starts}
+use Rattle.sql_grammar.proofs.CompleteSteps.{Read, tok, also, part, last, then_on, else_on, done, weak, over_s, over_not_r, starts_not_r, r_test, s_test, Ahead, nothing_ahead, r_ahead, to}
 use Rattle.sql_grammar.proofs.CompleteStarts.{postfix_starts, expr_starts}
 use Rattle.sql_grammar.proofs.CompleteWords.{Neither, select_distinct_read, as_struct_read}
 use Rattle.sql_grammar.proofs.CompleteParts.{Reading, after_read_by}
 use Rattle.sql_grammar.proofs.CompleteHeld.{both_ahead}
 use Rattle.sql_grammar.proofs.CompleteJoins.{from_part_read, from_part_ahead}
 use Rattle.sql_grammar.proofs.CompleteGroups.{group_by_read, group_by_ahead}
-use Rattle.sql_grammar.proofs.CompleteItems.{NoEdit, KeptBy, Kept, kept_as, kept_map}
+use Rattle.sql_grammar.proofs.CompleteItems.{NoEdit, Kept, kept_as, kept_map}
 use Rattle.sql_grammar.proofs.CompleteLists.{ItemsRead, ends_plain, ends_comma, ends_except, items_by}
 
 -- ---- what an item doesn't begin with

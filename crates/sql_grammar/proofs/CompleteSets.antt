@@ -1,12 +1,11 @@
 -- Set operations are read, behind a term with which the word EXCEPT may have been read.
-use Rattle.std.proofs.Common.{◌≡◌, ◌⊎◌, inl, inr, ℕ, zero, suc, ◌<◌, ◌≤◌, Bool, true, false, cond, List, [], ◌∷◌, ◌++◌, length, Option, Some, None, refl, sym, ◌∙◌, ap, subst, arith}
+use Rattle.std.proofs.Common.{◌≡◌, inl, inr, ℕ, zero, suc, ◌<◌, ◌≤◌, Bool, true, false, List, [], ◌∷◌, ◌++◌, length, Option, Some, None, refl, sym, ◌∙◌, ap, arith}
 use Rattle.std.proofs.lemmas.List.{append_assoc, append-nil, length-append}
-use Rattle.fronts.specs.Readers.{Outcome, taken, ◌>>=◌, and_then, pure, refuse, comes, token}
+use Rattle.fronts.specs.Readers.{taken, ◌>>=◌, and_then, pure, refuse, comes, token}
 use Rattle.sql_types.specs.declared.kinds.SetKind.{SetKind}
 use Rattle.sql_types.specs.declared.kinds.SetKind.TheVariants as set
 use Rattle.sql_ast.specs.declared.query.SetTerm.{SetTerm}
 use Rattle.sql_ast.specs.declared.query.Term.{Term}
-use Rattle.sql_ast.specs.declared.words.Reserved.{Reserved}
 use Rattle.sql_ast.specs.declared.words.Reserved.TheVariants as r
 use Rattle.sql_ast.specs.declared.words.Sign.TheVariants as s
 use Rattle.sql_ast.specs.declared.token.Token.{Token}
@@ -16,14 +15,14 @@ use Rattle.sql_ast.specs.Marks.{Tokens, Is, reserved, sign, same_reserved, reser
 use Rattle.sql_ast.specs.Trees.{set_word, set_quantifier}
 use Rattle.sql_ast.specs.Grammar.{TermOf, SetTermsOf, set_terms_none, set_terms_more}
 use Rattle.sql_grammar.specs.Ways.{Parser, following}
-use Rattle.sql_grammar.specs.Classes.{SetWord, a_union, set_lexeme, set_word_of, set_kind_by}
+use Rattle.sql_grammar.specs.Classes.{a_union, set_lexeme, set_word_of, set_kind_by}
 use Rattle.sql_grammar.specs.Exprs.{tells, told, Below}
 use Rattle.sql_grammar.specs.Queries.{term_or_except, set_next, set_term, set_item, set_terms, set_first, sets_from}
-use Rattle.sql_grammar.proofs.Follows.{Over, level, word_level, is_reserved}
-use Rattle.sql_grammar.proofs.CompleteSteps.{tok, then_on, else_on, done, weak, refute, over_r, over_not_r, r_test}
+use Rattle.sql_grammar.proofs.Follows.{Over, level}
+use Rattle.sql_grammar.proofs.CompleteSteps.{tok, then_on, else_on, done, weak, over_r, over_not_r, r_test}
 use Rattle.sql_grammar.proofs.CompleteParts.{Reading}
-use Rattle.sql_grammar.proofs.CompleteHeld.{set_word_level, sets_ahead}
-use Rattle.sql_grammar.proofs.CompleteItems.{NoEdit, KeptBy, Kept, kept_none}
+use Rattle.sql_grammar.proofs.CompleteHeld.{set_word_level}
+use Rattle.sql_grammar.proofs.CompleteItems.{NoEdit, Kept, kept_none}
 use Rattle.sql_grammar.proofs.CompleteSelects.{term_by}
 
 -- ---- the words

@@ -1,8 +1,7 @@
 -- Postfix expressions are read, also one before `.*`; and so all expressions, one level of depth above the readers below.
-use Rattle.std.proofs.Common.{◌≡◌, ◌⊎◌, inl, inr, ℕ, suc, ◌<◌, ◌≤◌, ◌||◌, Bool, true, false, List, [], ◌∷◌, ◌++◌, length, Option, Some, None, refl, sym, ◌∙◌, ap, subst, arith}
+use Rattle.std.proofs.Common.{◌≡◌, inl, inr, ℕ, suc, ◌<◌, ◌||◌, Bool, true, false, List, [], ◌∷◌, ◌++◌, length, Some, None, refl, sym, ◌∙◌, ap, subst, arith}
 use Rattle.std.proofs.lemmas.List.{append_assoc, append-nil, length-append}
-use Rattle.fronts.specs.Fronts.{Language}
-use Rattle.fronts.specs.Readers.{Outcome, taken, ◌>>=◌, and_then, pure, comes, next}
+use Rattle.fronts.specs.Readers.{Outcome, taken, ◌>>=◌, and_then, comes}
 use Rattle.sql_ast.specs.declared.expr.Expr.{Expr}
 use Rattle.sql_ast.specs.declared.expr.Expr.TheVariants as e
 use Rattle.sql_ast.specs.declared.expr.IndexForm.{IndexForm}
@@ -11,22 +10,21 @@ use Rattle.sql_ast.specs.declared.expr.Part.{Part}
 use Rattle.sql_ast.specs.declared.expr.Part.TheVariants as part_kind
 use Rattle.sql_ast.specs.declared.words.Sign.TheVariants as s
 use Rattle.sql_ast.specs.declared.token.Token.{Token}
-use Rattle.sql_ast.specs.declared.token.Lexeme.{Lexeme}
-use Rattle.sql_ast.specs.Marks.{Tokens, Is, Says, sign, named, spelled, same_sign, sign_lexeme, start_of}
-use Rattle.sql_ast.specs.Trees.{name_at, form_of, path}
-use Rattle.sql_ast.specs.Grammar.{ExprOf, PostfixOf, postfix_is, PartsOf, parts_none, parts_more, PartOf, part_field, part_index, BasicOf, BorOf, CompOf}
-use Rattle.sql_grammar.specs.Ways.{Parser, Ended, until, starting}
-use Rattle.sql_grammar.specs.Classes.{NameWord, the_safe}
-use Rattle.sql_grammar.specs.Exprs.{tells, told, starred, part_next, Below, Pending, safe_part, name_by, index, field_or_star, part_or_star, parts_from, opened, postfix_or_star, postfix, bor_pending, bor, comparison, disjunction, enclosed}
+use Rattle.sql_ast.specs.Marks.{Tokens, Is, sign, spelled, same_sign, sign_lexeme, start_of}
+use Rattle.sql_ast.specs.Trees.{form_of, path}
+use Rattle.sql_ast.specs.Grammar.{ExprOf, PostfixOf, postfix_is, PartsOf, parts_none, PartOf, part_field, part_index}
+use Rattle.sql_grammar.specs.Ways.{Ended, until}
+use Rattle.sql_grammar.specs.Classes.{the_safe}
+use Rattle.sql_grammar.specs.Exprs.{part_next, Below, safe_part, name_by, index, field_or_star, part_or_star, parts_from, opened, postfix_or_star, postfix, disjunction}
 use Rattle.sql_grammar.proofs.Marks.{told_is, tells_is}
 use Rattle.sql_grammar.proofs.Calls.{bracketed_is}
-use Rattle.sql_grammar.proofs.Solid.{solid_basic, solid_postfix}
-use Rattle.sql_grammar.proofs.Follows.{Over, level}
-use Rattle.sql_grammar.proofs.CompleteSteps.{Read, Free, Not, less, tok, also, part, last, only, then_on, else_on, done, weak, over_s, over_not_s, s_test}
-use Rattle.sql_grammar.proofs.CompleteRepeats.{begun, begun_only, One, one, Gone, GoneTo, gone_to, until_read, until_to_read}
+use Rattle.sql_grammar.proofs.Solid.{solid_basic}
+use Rattle.sql_grammar.proofs.Follows.{Over}
+use Rattle.sql_grammar.proofs.CompleteSteps.{Read, Free, less, tok, also, part, last, then_on, else_on, done, weak, over_s, over_not_s, s_test}
+use Rattle.sql_grammar.proofs.CompleteRepeats.{begun, One, one, Gone, GoneTo, gone_to, until_read, until_to_read}
 use Rattle.sql_grammar.proofs.CompleteParts.{Reading, bracketed_read}
 use Rattle.sql_grammar.proofs.CompleteHeld.{held_read}
-use Rattle.sql_grammar.proofs.CompletePostfix.{Opens, Result, opened_basic, not_starred, no_part, part_begins, many_parts}
+use Rattle.sql_grammar.proofs.CompletePostfix.{Result, opened_basic, not_starred, no_part, part_begins, many_parts}
 use Rattle.sql_grammar.proofs.CompleteLevels.{bor_pends, bor_read}
 use Rattle.sql_grammar.proofs.CompleteComparisons.{comparison_read}
 use Rattle.sql_grammar.proofs.CompleteExprs.{disjunction_read}

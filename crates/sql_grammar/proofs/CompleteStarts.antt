@@ -1,36 +1,26 @@
 -- With which tokens the words of expressions begin, and with which the tails of chains.
-use Rattle.std.proofs.Common.{◌≡◌, ℕ, zero, suc, ◌+◌, ◌<◌, ◌≤◌, Bool, true, false, List, [], ◌∷◌, ◌++◌, length, Option, Some, None, refl, sym, ◌∙◌, ap, subst, arith}
-use Rattle.std.proofs.lemmas.List.{append_assoc}
-use Rattle.fronts.specs.Fronts.{Language}
-use Rattle.fronts.specs.Readers.{comes}
-use Rattle.fronts.proofs.Agrees.{Many, many_none, many_more}
-use Rattle.sql_ast.specs.declared.clauses.Arg.{Arg}
+use Rattle.std.proofs.Common.{◌≡◌, ℕ, ◌≤◌, Bool, true, false, List, ◌∷◌, ◌++◌, Some, None, refl, ◌∙◌, ap, arith}
 use Rattle.sql_ast.specs.declared.clauses.Function.{Function}
-use Rattle.sql_ast.specs.declared.expr.Comparison.{Comparison}
-use Rattle.sql_ast.specs.declared.expr.Comparison.TheVariants as comparison_kind
 use Rattle.sql_ast.specs.declared.expr.Expr.{Expr}
 use Rattle.sql_ast.specs.declared.expr.Link.{Link}
 use Rattle.sql_ast.specs.declared.expr.Operator.{Operator}
 use Rattle.sql_ast.specs.declared.expr.Operator.TheVariants as operator
 use Rattle.sql_ast.specs.declared.expr.Part.{Part}
-use Rattle.sql_ast.specs.declared.expr.Prefix.{Prefix}
 use Rattle.sql_ast.specs.declared.expr.Signed.{Signed}
 use Rattle.sql_ast.specs.declared.words.Reserved.{Reserved}
 use Rattle.sql_ast.specs.declared.words.Reserved.TheVariants as r
 use Rattle.sql_ast.specs.declared.words.Sign.{Sign}
 use Rattle.sql_ast.specs.declared.words.Sign.TheVariants as s
-use Rattle.sql_ast.specs.declared.words.Word.{Word}
 use Rattle.sql_ast.specs.declared.token.Token.{Token}
 use Rattle.sql_ast.specs.declared.token.Lexeme.{Lexeme}
 use Rattle.sql_ast.specs.declared.token.Lexeme.TheVariants as l
-use Rattle.sql_ast.specs.Marks.{Tokens, Is, Says, reserved, sign, word, named, integer, text, bytes, parameter, integer_lexeme, text_lexeme, bytes_lexeme, parameter_lexeme}
-use Rattle.sql_ast.specs.Trees.{function_lexeme, function_of, prefix_lexeme, prefix_of, product_lexeme, product_of, sum_lexeme, sum_of, comparison_lexeme, comparison_of, link}
-use Rattle.sql_ast.specs.Parts.{PrefixesOf, prefixes_none, prefixes_more, NotsOf, nots_none, nots_more, NegatableOf, not_negated, is_negated, IsNotOf, is_plain, is_not}
-use Rattle.sql_ast.specs.Grammar.{ExprOf, expr_is, OrsOf, ors_none, ors_more, ConjOf, conj_is, AndsOf, ands_none, ands_more, NegOf, neg_is, CompOf, comp_bor, comp_compare, comp_like, comp_like_list, comp_like_unnest, comp_between, comp_in_list, comp_in_query, comp_in_unnest, comp_is, comp_distinct, BorOf, bor_is, BorsOf, bors_none, bors_more, BxorOf, bxor_is, BxorsOf, bxors_none, bxors_more, BandOf, band_is, BandsOf, bands_none, bands_more, ShiftOf, shift_is, ShiftsOf, shifts_none, shifts_left, shifts_right, SumOf, sum_is, SumsOf, sums_none, sums_more, ProdOf, prod_is, ProdsOf, prods_none, prods_more, UnaryOf, unary_is, PostfixOf, postfix_is, PartsOf, parts_none, parts_more, PartOf, part_field, part_index, BasicOf, basic_integer, basic_string, basic_bytes, basic_true, basic_false, basic_null, basic_date, basic_parameter, basic_name, basic_call, basic_safe_call, basic_group, basic_query, basic_tuple, basic_case, basic_cast, basic_safe_cast, basic_extract, basic_grouping, basic_exists, basic_array_query, basic_array, basic_array_word, basic_array_typed, basic_struct, basic_typed_struct, basic_with, ArrayItemsOf, array_empty, array_items, ListOf, list_is, CallOf, call_is, ArgOf, arg_expr, arg_lambda, arg_lambda_two, arg_interval}
-use Rattle.sql_grammar.specs.Exprs.{tells, told}
+use Rattle.sql_ast.specs.Marks.{Tokens, Is, Says, reserved, sign, named, integer_lexeme, text_lexeme, bytes_lexeme, parameter_lexeme}
+use Rattle.sql_ast.specs.Trees.{function_lexeme, prefix_lexeme, product_lexeme, product_of, sum_lexeme, sum_of}
+use Rattle.sql_ast.specs.Parts.{prefixes_none, prefixes_more, nots_none, nots_more, NegatableOf, not_negated, is_negated, IsNotOf, is_plain, is_not}
+use Rattle.sql_ast.specs.Grammar.{ExprOf, expr_is, OrsOf, ors_none, ors_more, ConjOf, conj_is, AndsOf, ands_none, ands_more, NegOf, neg_is, CompOf, comp_bor, comp_compare, comp_like, comp_like_list, comp_like_unnest, comp_between, comp_in_list, comp_in_query, comp_in_unnest, comp_is, comp_distinct, BorOf, bor_is, BorsOf, bors_none, bors_more, BxorOf, bxor_is, BxorsOf, bxors_none, bxors_more, BandOf, band_is, BandsOf, bands_none, bands_more, ShiftOf, shift_is, ShiftsOf, shifts_none, shifts_left, shifts_right, SumOf, sum_is, SumsOf, sums_none, sums_more, ProdOf, prod_is, ProdsOf, prods_none, prods_more, UnaryOf, unary_is, PostfixOf, postfix_is, PartsOf, parts_none, parts_more, PartOf, part_field, part_index, BasicOf, basic_integer, basic_string, basic_bytes, basic_true, basic_false, basic_null, basic_date, basic_parameter, basic_name, basic_call, basic_safe_call, basic_group, basic_query, basic_tuple, basic_case, basic_cast, basic_safe_cast, basic_extract, basic_grouping, basic_exists, basic_array_query, basic_array, basic_array_word, basic_array_typed, basic_struct, basic_typed_struct, basic_with, ArrayItemsOf, array_empty, array_items, ListOf, list_is, CallOf, call_is}
+use Rattle.sql_grammar.specs.Exprs.{tells}
 use Rattle.sql_grammar.proofs.Marks.{tells_is}
-use Rattle.sql_grammar.proofs.Levels.{LinkOf, link_of}
-use Rattle.sql_grammar.proofs.Follows.{Over, Starts, level, rank, word_rank, sign_rank, is_reserved, is_sign, is_named, is_word}
+use Rattle.sql_grammar.proofs.Follows.{Starts, level, rank, word_rank, sign_rank, is_reserved, is_sign, is_named, is_word}
 use Rattle.sql_grammar.proofs.CompleteSteps.{Ahead, nothing_ahead, level_ahead, r_ahead, s_ahead, on, starts_front, starts_weak}
 
 -- ---- the rank of a token

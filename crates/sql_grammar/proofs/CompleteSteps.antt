@@ -1,10 +1,9 @@
 -- The steps of a proof that a reader reads each word, and repetitions.
-use Rattle.std.proofs.Common.{◌≡◌, ℕ, zero, suc, ◌+◌, ◌<◌, ◌≤◌, Bool, true, false, cond, List, [], ◌∷◌, ◌++◌, length, Option, Some, None, refl, sym, ◌∙◌, ap, subst, arith}
+use Rattle.std.proofs.Common.{◌≡◌, ℕ, zero, suc, ◌+◌, ◌<◌, ◌≤◌, Bool, true, false, cond, List, [], ◌∷◌, ◌++◌, length, Option, Some, refl, sym, ◌∙◌, ap, subst, arith}
 use Rattle.std.proofs.lemmas.List.{append_assoc, append-nil, length-append}
 use Rattle.fronts.specs.Fronts.{Language}
-use Rattle.fronts.specs.Readers.{Outcome, taken, stuck, Reader, and_then, ◌>>=◌, peek, next, comes, token, many, noted, noting}
-use Rattle.fronts.proofs.Lists.{front_is}
-use Rattle.fronts.proofs.Agrees.{Many, many_none, many_more, WithText, Found}
+use Rattle.fronts.specs.Readers.{Outcome, taken, stuck, and_then, ◌>>=◌, peek, next, comes, token, many}
+use Rattle.fronts.proofs.Agrees.{Many, many_none, many_more, Found}
 use Rattle.sql_ast.specs.declared.words.Reserved.{Reserved}
 use Rattle.sql_ast.specs.declared.words.Sign.{Sign}
 use Rattle.sql_ast.specs.declared.words.Sign.TheVariants as s
@@ -12,10 +11,10 @@ use Rattle.sql_ast.specs.declared.words.Word.{Word}
 use Rattle.sql_ast.specs.declared.token.Token.{Token}
 use Rattle.sql_ast.specs.declared.token.Lexeme.{Lexeme}
 use Rattle.sql_ast.specs.declared.token.Lexeme.TheVariants as l
-use Rattle.sql_ast.specs.Marks.{Tokens, Is, reserved, sign, word, named, start_of, same_reserved, reserved_lexeme}
-use Rattle.sql_grammar.specs.Ways.{Parser, starting, place_of}
+use Rattle.sql_ast.specs.Marks.{Tokens, Is, reserved, sign, word, named, same_reserved, reserved_lexeme}
+use Rattle.sql_grammar.specs.Ways.{Parser}
 use Rattle.sql_grammar.proofs.Marks.{AfterOf, after_of}
-use Rattle.sql_grammar.proofs.Follows.{Over, Starts, level, level_of, rank, rank_of, word_level, sign_level, word_rank, sign_rank, is_reserved, is_sign, is_named, is_word}
+use Rattle.sql_grammar.proofs.Follows.{Over, Starts, level, rank, word_level, sign_level, word_rank, sign_rank, is_reserved, is_sign, is_named, is_word}
 
 -- A word is read, whatever follows that F lets follow, where fewer than n tokens are left.
 pub record Read {A : Type 0} (n : ℕ) (F : Tokens → Type 0) (L : Language Token A) (p : Parser A) : Type 0 where

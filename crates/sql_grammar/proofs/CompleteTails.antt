@@ -1,9 +1,7 @@
 -- Whole calls are read, and casts that look like a call.
-use Rattle.std.proofs.Common.{◌≡◌, ℕ, suc, ◌<◌, ◌≤◌, Bool, true, false, List, [], ◌∷◌, ◌++◌, length, Option, Some, None, refl, sym, ◌∙◌, ap, subst, arith}
-use Rattle.std.proofs.lemmas.List.{append_assoc, append-nil}
-use Rattle.fronts.specs.Fronts.{Language}
-use Rattle.fronts.specs.Readers.{Outcome, taken, ◌>>=◌, pure, comes, next}
-use Rattle.fronts.proofs.Agrees.{Found}
+use Rattle.std.proofs.Common.{◌≡◌, ℕ, suc, ◌<◌, Bool, true, false, List, [], ◌∷◌, ◌++◌, length, Option, refl, sym, ◌∙◌, ap, subst, arith}
+use Rattle.std.proofs.lemmas.List.{append_assoc}
+use Rattle.fronts.specs.Readers.{taken, ◌>>=◌, pure, comes, next}
 use Rattle.sql_ast.specs.declared.clauses.Arg.{Arg}
 use Rattle.sql_ast.specs.declared.clauses.Arg.TheVariants as arg
 use Rattle.sql_ast.specs.declared.clauses.Call.{Call}
@@ -18,21 +16,19 @@ use Rattle.sql_ast.specs.declared.words.Reserved.TheVariants as r
 use Rattle.sql_ast.specs.declared.words.Sign.TheVariants as s
 use Rattle.sql_ast.specs.declared.words.Word.TheVariants as w
 use Rattle.sql_ast.specs.declared.token.Token.{Token}
-use Rattle.sql_ast.specs.declared.token.Lexeme.{Lexeme}
-use Rattle.sql_ast.specs.Marks.{Tokens, Is, Says, reserved, sign, word, named, same_reserved, same_sign, reserved_lexeme, sign_lexeme}
+use Rattle.sql_ast.specs.Marks.{Tokens, Is, reserved, sign, word, same_reserved, reserved_lexeme, sign_lexeme}
 use Rattle.sql_ast.specs.Trees.{function_of}
 use Rattle.sql_ast.specs.Parts.{DistinctOf, distinct_none, distinct_is, NullsPartOf, nulls_part_none, nulls_ignore, nulls_respect, CallLimitOf, call_limit_none, call_limit_is, TypeOf, type_levels}
-use Rattle.sql_ast.specs.Grammar.{ExprOf, CallOf, call_is, ArgumentsOf, arguments_none, arguments_star, arguments_are, ArgsOf, ArgOf, arg_expr, OrderOf, order_none, order_is}
+use Rattle.sql_ast.specs.Grammar.{ExprOf, CallOf, call_is, ArgumentsOf, arguments_none, arguments_star, arguments_are, ArgsOf, arg_expr, OrderOf, order_none, order_is}
 use Rattle.sql_grammar.specs.Ways.{Parser}
-use Rattle.sql_grammar.specs.Classes.{class_of, arguments_lexeme, ArgumentsStart, by_star, by_nothing, by_arg}
-use Rattle.sql_grammar.specs.Exprs.{tells, told, Below, arguments, argument, arguments_from, call_tail, call_body, call_of, call, cast_end, call_from, cast_or_call, safe_cast_by, safe_cast, called}
+use Rattle.sql_grammar.specs.Classes.{class_of, arguments_lexeme, by_arg}
+use Rattle.sql_grammar.specs.Exprs.{tells, told, Below, argument, call_tail, call_body, call_of, call, cast_end, call_from, cast_or_call, safe_cast_by, safe_cast, called}
 use Rattle.sql_grammar.proofs.Marks.{told_is, tells_is, AfterOf, after_of}
-use Rattle.sql_grammar.proofs.Follows.{Over, Starts}
-use Rattle.sql_grammar.proofs.CompleteSteps.{Read, Free, Not, less, under, tok, also, part, last, only, then_on, else_on, peeked, done, weak, over_r, over_s, over_not_r, over_not_s, r_test, s_test, after_read, to, on}
+use Rattle.sql_grammar.proofs.CompleteSteps.{Read, Free, less, tok, also, part, last, only, then_on, else_on, peeked, done, weak, over_r, over_s, over_not_r, r_test, s_test, after_read, on}
 use Rattle.sql_grammar.proofs.CompleteWords.{distinct_read, nulls_part_read, call_limit_read, call_limit_ahead}
 use Rattle.sql_grammar.proofs.CompleteTypes.{whole_type_read}
 use Rattle.sql_grammar.proofs.CompleteParts.{Reading}
-use Rattle.sql_grammar.proofs.CompleteCalls.{order_read, order_ahead, ArgEnds, Ends, ends_over, ArgStarts, arg_starts, args_ahead, args_arg_ends, argument_read, arguments_from_read, arguments_read, Args, args_are, ends_not_distinct}
+use Rattle.sql_grammar.proofs.CompleteCalls.{order_read, order_ahead, ArgEnds, Ends, ends_over, ArgStarts, arg_starts, args_ahead, args_arg_ends, argument_read, arguments_from_read, arguments_read, args_are, ends_not_distinct}
 
 -- ---- the end of a call
 

@@ -1,23 +1,21 @@
 -- The readers of types read each type, whatever follows; of fields each list that `>` closes.
-use Rattle.std.proofs.Common.{◌≡◌, ℕ, zero, suc, ◌+◌, ◌<◌, ◌≤◌, Bool, true, false, List, [], ◌∷◌, ◌++◌, length, Option, Some, None, refl, sym, ◌∙◌, ap, subst, arith}
+use Rattle.std.proofs.Common.{◌≡◌, ℕ, zero, suc, ◌<◌, Bool, true, false, List, [], ◌∷◌, ◌++◌, length, None, refl, sym, subst}
 use Rattle.std.proofs.lemmas.List.{append_assoc}
-use Rattle.fronts.specs.Fronts.{Language}
-use Rattle.fronts.specs.Readers.{Outcome, taken, comes, many}
+use Rattle.fronts.specs.Readers.{taken, comes, many}
 use Rattle.fronts.proofs.Agrees.{Many, many_none, many_more, Found}
 use Rattle.sql_ast.specs.declared.words.Reserved.TheVariants as r
 use Rattle.sql_ast.specs.declared.words.Sign.TheVariants as s
 use Rattle.sql_ast.specs.declared.token.Token.{Token}
-use Rattle.sql_ast.specs.declared.token.Lexeme.{Lexeme}
 use Rattle.sql_ast.specs.declared.type_spelling.TypeSpelling.{TypeSpelling}
 use Rattle.sql_ast.specs.declared.type_spelling.TypeField.{TypeField}
-use Rattle.sql_ast.specs.Marks.{Tokens, Is, same_reserved, same_sign, reserved, sign, named, reserved_lexeme, sign_lexeme, name_lexeme}
-use Rattle.sql_ast.specs.Parts.{TypeOf, type_name as is_type_name, type_array, type_struct, FieldsOf, fields_are, FieldCommasOf, fields_none, fields_more, FieldOf, field_unnamed, field_named}
+use Rattle.sql_ast.specs.Marks.{Tokens, Is, same_sign, sign, sign_lexeme, name_lexeme}
+use Rattle.sql_ast.specs.Parts.{TypeOf, type_name as is_type_name, type_array, type_struct, fields_are, FieldCommasOf, fields_none, fields_more, FieldOf, field_unnamed, field_named}
 use Rattle.sql_grammar.specs.Ways.{Parser}
-use Rattle.sql_grammar.specs.Classes.{class_of, TypeStart, a_type_name, an_array_type, a_struct_type, no_type, type_lexeme, begins_type}
+use Rattle.sql_grammar.specs.Classes.{class_of, no_type, type_lexeme, begins_type}
 use Rattle.sql_grammar.specs.Words.{type_name, field, comma_field, fields_closed, array_type, struct_type, type_by, starts_type, type_at, whole_type, levels_below}
 use Rattle.sql_grammar.proofs.Marks.{AfterOf, after_of}
 use Rattle.sql_grammar.proofs.Words.{ClosedOf, closed_fields}
-use Rattle.sql_grammar.proofs.CompleteSteps.{Read, Free, Not, Comes, less, under, tok, also, part, last, only, then_on, else_on, peeked, done, r_test, s_test, n_test, after_read, after_begins, many_read}
+use Rattle.sql_grammar.proofs.CompleteSteps.{Read, Free, Not, Comes, less, tok, also, part, last, then_on, else_on, peeked, done, r_test, s_test, n_test, after_read, after_begins, many_read}
 
 -- a type begins with a token that the test of its level takes
 type_begins : (k : ℕ) (x : TypeSpelling) (u rest : Tokens) → TypeOf (suc k) x u → comes (starts_type k) (u ++ rest) ≡ true

@@ -1,16 +1,12 @@
 -- The readers of what holds no expression read each word: names, aliases, types, and words that may stand.
-use Rattle.std.proofs.Common.{◌≡◌, ℕ, zero, suc, ◌+◌, ◌<◌, ◌≤◌, Bool, true, false, ◌||◌, List, [], ◌∷◌, ◌++◌, length, Option, Some, None, refl, sym, ◌∙◌, ap, subst, arith}
-use Rattle.std.proofs.lemmas.List.{append_assoc, append-nil}
-use Rattle.fronts.specs.Fronts.{Language}
-use Rattle.fronts.specs.Readers.{taken, comes, many}
+use Rattle.std.proofs.Common.{◌≡◌, ℕ, suc, ◌<◌, Bool, true, false, ◌||◌, List, [], ◌∷◌, ◌++◌, length, Option, refl, sym, ◌∙◌, ap, arith}
+use Rattle.fronts.specs.Readers.{taken, comes}
 use Rattle.fronts.proofs.Agrees.{Many, many_none, many_more, Found}
 use Rattle.sql_ast.specs.declared.words.Reserved.{Reserved}
 use Rattle.sql_ast.specs.declared.words.Reserved.TheVariants as r
 use Rattle.sql_ast.specs.declared.words.Sign.TheVariants as s
 use Rattle.sql_ast.specs.declared.words.Word.TheVariants as w
 use Rattle.sql_ast.specs.declared.token.Token.{Token}
-use Rattle.sql_ast.specs.declared.token.Lexeme.{Lexeme}
-use Rattle.sql_ast.specs.declared.token.Lexeme.TheVariants as l
 use Rattle.sql_ast.specs.declared.clauses.LimitPart.{LimitPart}
 use Rattle.sql_ast.specs.declared.clauses.Name.{Name}
 use Rattle.sql_ast.specs.declared.clauses.NullsPart.{NullsPart}
@@ -18,15 +14,14 @@ use Rattle.sql_ast.specs.declared.clauses.NullsPlace.{NullsPlace}
 use Rattle.sql_ast.specs.declared.clauses.UnpivotColumn.{UnpivotColumn}
 use Rattle.sql_ast.specs.declared.clauses.WithOffset.{WithOffset}
 use Rattle.sql_ast.specs.declared.expr.Expr.{Expr}
-use Rattle.sql_ast.specs.Marks.{Tokens, Is, same_reserved, same_word, same_sign, reserved, sign, word, named, reserved_lexeme, sign_lexeme, word_lexeme, name_lexeme}
+use Rattle.sql_ast.specs.Marks.{Tokens, Is, same_reserved, same_word, same_sign, reserved, sign, word, named, reserved_lexeme, sign_lexeme, word_lexeme}
 use Rattle.sql_ast.specs.Trees.{name_at}
-use Rattle.sql_ast.specs.Parts.{from_alias, AliasOf, alias_none, alias_name, alias_as, FromAliasOf, from_alias_none, from_alias_name, from_alias_as, NameCommasOf, name_commas_none, name_commas_more, NamesOf, names_are, NameDotsOf, name_dots_none, name_dots_more, PlaceOf, place_none, place_is, UnpivotColumnOf, column_plain, column_as, UnpivotCommasOf, unpivot_none, unpivot_more, IncludeOf, include_none, include_nulls, exclude_nulls, DistinctOf, distinct_none, distinct_is, SelectDistinctOf, select_none, select_all, select_distinct as is_select_distinct, AsStructOf, as_struct_none, as_struct_is, DirectionOf, direction_none, direction_asc, direction_desc, NullsPlaceOf, nulls_none, nulls_first, nulls_last, NullsPartOf, nulls_part_none, nulls_ignore, nulls_respect, OptionalOf, optional_none, optional_is, OffsetOf, offset_none, offset_is, LimitOf, limit_none, limit_is, CallLimitOf, call_limit_none, call_limit_is}
-use Rattle.sql_grammar.specs.Ways.{Parser}
+use Rattle.sql_ast.specs.Parts.{from_alias, AliasOf, alias_none, alias_name, alias_as, FromAliasOf, from_alias_none, from_alias_name, from_alias_as, NameCommasOf, name_commas_none, name_commas_more, NamesOf, names_are, NameDotsOf, name_dots_none, name_dots_more, PlaceOf, place_none, place_is, UnpivotColumnOf, column_plain, column_as, UnpivotCommasOf, unpivot_none, unpivot_more, IncludeOf, include_none, include_nulls, exclude_nulls, DistinctOf, distinct_none, distinct_is, SelectDistinctOf, select_none, select_all, select_distinct as is_select_distinct, AsStructOf, as_struct_none, as_struct_is, DirectionOf, direction_none, direction_asc, direction_desc, NullsPlaceOf, nulls_none, nulls_first, nulls_last, NullsPartOf, nulls_part_none, nulls_ignore, nulls_respect, OffsetOf, offset_none, offset_is, LimitOf, limit_none, limit_is, CallLimitOf, call_limit_none, call_limit_is}
 use Rattle.sql_grammar.specs.Words.{name, after_as, alias_of, comma_name, dot_name, names, dotted, offset_column, unpivot_column, comma_column, include, distinct, select_distinct, as_struct, direction, nulls_place, nulls_part, optional, offset, limit, call_limit}
 use Rattle.sql_grammar.proofs.Marks.{AfterOf, after_of}
 use Rattle.sql_grammar.proofs.Words.{NameIs, name_is}
-use Rattle.sql_grammar.proofs.Follows.{Over, level, is_named, is_reserved}
-use Rattle.sql_grammar.proofs.CompleteSteps.{Read, Free, Not, Comes, less, tok, also, part, last, only, then_on, else_on, done, refute, over_not_r, over_not_s, over_not_n, over_not_w, weak, r_test, s_test, n_test, w_test, after_read, after_begins, free_many, Ahead, nothing_ahead, r_ahead, level_ahead}
+use Rattle.sql_grammar.proofs.Follows.{Over, level, is_named}
+use Rattle.sql_grammar.proofs.CompleteSteps.{Read, Free, Not, Comes, less, tok, also, part, last, then_on, else_on, done, refute, over_not_r, over_not_n, over_not_w, weak, r_test, s_test, n_test, w_test, after_read, after_begins, free_many, Ahead, nothing_ahead, r_ahead, level_ahead}
 
 -- ---- aliases
 

@@ -1,12 +1,7 @@
 -- That a reader reads each word of its language, whatever follows that doesn't go on with it: how tokens bind, and the
 -- steps of such a proof.
-use Rattle.std.proofs.Common.{◌≡◌, ℕ, zero, suc, ◌+◌, ◌<◌, ◌≤◌, Bool, true, false, cond, List, [], ◌∷◌, ◌++◌, length, Option, Some, None, refl, sym, ◌∙◌, ap, subst, arith}
-use Rattle.std.proofs.lemmas.List.{append_assoc, append-nil, length-append}
+use Rattle.std.proofs.Common.{◌≡◌, ℕ, ◌<◌, ◌≤◌, true, List, [], ◌∷◌, Option, Some, None, refl, sym, ap}
 use denote.Enum.Bare.{same_true}
-use Rattle.fronts.specs.Fronts.{Language}
-use Rattle.fronts.specs.Readers.{Outcome, taken, stuck, Reader, and_then, comes, token, many, noted, noting}
-use Rattle.fronts.proofs.Lists.{front_is}
-use Rattle.fronts.proofs.Agrees.{Many, many_none, many_more, WithText}
 use Rattle.sql_ast.specs.contracts.words.Reserved as reserved_contract
 use Rattle.sql_ast.specs.contracts.words.Word as word_contract
 use Rattle.sql_ast.specs.contracts.words.Sign as sign_contract
@@ -18,8 +13,7 @@ use Rattle.sql_ast.specs.declared.words.Word.{Word}
 use Rattle.sql_ast.specs.declared.token.Token.{Token}
 use Rattle.sql_ast.specs.declared.token.Lexeme.{Lexeme}
 use Rattle.sql_ast.specs.declared.token.Lexeme.TheVariants as l
-use Rattle.sql_ast.specs.Marks.{Tokens, Is, same_reserved, same_word, same_sign, spells_word, reserved_lexeme, sign_lexeme, word_lexeme, name_lexeme, reserved, sign, word, named}
-use Rattle.sql_grammar.specs.Ways.{Parser}
+use Rattle.sql_ast.specs.Marks.{Tokens, Is, same_reserved, same_word, same_sign, reserved_lexeme, sign_lexeme, word_lexeme, name_lexeme, reserved, sign, word, named}
 
 -- ---- how weakly a token goes on with what stands before it
 
