@@ -2,6 +2,7 @@ pub mod Ways
 pub mod Marks
 pub mod Words
 pub mod Solid
+pub mod Starts
 pub mod Levels
 pub mod Calls
 pub mod Subqueries
@@ -9,6 +10,7 @@ pub mod Basics
 pub mod Exprs
 pub mod Chains
 pub mod Comparisons
+pub mod Prefixed
 pub mod Froms
 pub mod Groupings
 pub mod Selects
@@ -40,3 +42,8 @@ pub mod CompleteLists
 pub mod CompleteSelects
 pub mod CompleteSets
 pub mod CompleteQueries
+pub mod Clauses
+pub mod SetTerms
+pub mod Queries
+pub mod Knot
+pub mod Readings

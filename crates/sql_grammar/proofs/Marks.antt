@@ -152,6 +152,16 @@ pub tok_opens : {B : Type 0} {n : ℕ} {fits : Token → Bool} {q q' : Token →
     → fits t ≡ true → ((s : Token) → Is fits s → Exact n Any (q s) (q' s)) → Opens t (token fits >>= q')
 tok_opens h then = opens_tok h (λ s i. then s (record { is = i }))
 
+-- a reader that is exact, and takes each token that fits
+pub record Taker {A : Type 0} (n : ℕ) (fits : Token → Bool) (L : Language Token A) (p p' : Parser A) : Type 0 where
+  pub exact : Exact n L p p'
+  pub takes : (t : Token) → fits t ≡ true → Opens t p'
+
+-- one that begins with such a token
+pub taker : {A : Type 0} {n : ℕ} {M : Language Token A} {fits : Token → Bool} {q q' : Token → Parser A} → Example fits
+    → ((t : Token) → Is fits t → Exact n (λ b v. M b (t ∷ v)) (q t) (q' t)) → Taker (suc n) fits M (token fits >>= q) (token fits >>= q')
+taker x then = record { exact = tok x then; takes = λ t h. tok_opens h (λ s i. E.into (then s i) (λ b v l. tt)) }
+
 -- ---- what tokens say
 
 module _ {A : Type 0} (other : A) (what : Token → Option A) where
