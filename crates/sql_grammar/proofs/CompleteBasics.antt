@@ -10,7 +10,7 @@ use Rattle.sql_ast.specs.declared.expr.Expr.{Expr}
 use Rattle.sql_ast.specs.declared.expr.Expr.TheVariants as e
 use Rattle.sql_ast.specs.declared.type_spelling.TypeField.{TypeField}
 use Rattle.sql_ast.specs.declared.type_spelling.TypeSpelling.{TypeSpelling}
-use Rattle.sql_ast.specs.declared.words.Reserved.TheVariants as r
+use Rattle.sql_names.specs.declared.words.Reserved.TheVariants as r
 use Rattle.sql_ast.specs.declared.words.Sign.TheVariants as s
 use Rattle.sql_ast.specs.declared.token.Token.{Token}
 use Rattle.sql_ast.specs.Marks.{Tokens, Is, reserved, sign, named, spelled, same_reserved, same_sign, reserved_lexeme, sign_lexeme}

@@ -10,7 +10,7 @@ use Rattle.sql_ast.specs.declared.expr.IsTest.{IsTest}
 use Rattle.sql_ast.specs.declared.expr.IsTest.TheVariants as test
 use Rattle.sql_ast.specs.declared.expr.Quantifier.{Quantifier}
 use Rattle.sql_ast.specs.declared.expr.Quantifier.TheVariants as quantifier
-use Rattle.sql_ast.specs.declared.words.Reserved.TheVariants as r
+use Rattle.sql_names.specs.declared.words.Reserved.TheVariants as r
 use Rattle.sql_ast.specs.declared.words.Sign.TheVariants as s
 use Rattle.sql_ast.specs.declared.token.Token.{Token}
 use Rattle.sql_ast.specs.declared.token.Lexeme.{Lexeme}

@@ -7,7 +7,7 @@ use Rattle.sql_ast.specs.declared.expr.Expr.{Expr}
 use Rattle.sql_ast.specs.declared.expr.Expr.TheVariants as e
 use Rattle.sql_ast.specs.declared.expr.Link.{Link}
 use Rattle.sql_ast.specs.declared.expr.Operator.TheVariants as operator
-use Rattle.sql_ast.specs.declared.words.Reserved.TheVariants as r
+use Rattle.sql_names.specs.declared.words.Reserved.TheVariants as r
 use Rattle.sql_ast.specs.declared.token.Token.{Token}
 use Rattle.sql_ast.specs.Marks.{Tokens, Is, reserved}
 use Rattle.sql_ast.specs.Trees.{nots, prefixes, prefix_of}

@@ -4,8 +4,8 @@ use Rattle.std.proofs.Common.{◌≡◌, ℕ, ◌<◌, ◌≤◌, Bool, [], ◌�
 use Rattle.std.proofs.lemmas.List.{append_assoc, append-nil}
 use Rattle.sql_ast.specs.declared.expr.Comparison.{Comparison}
 use Rattle.sql_ast.specs.declared.expr.Expr.{Expr}
-use Rattle.sql_ast.specs.declared.words.Reserved.{Reserved}
-use Rattle.sql_ast.specs.declared.words.Reserved.TheVariants as r
+use Rattle.sql_names.specs.declared.words.Reserved.{Reserved}
+use Rattle.sql_names.specs.declared.words.Reserved.TheVariants as r
 use Rattle.sql_ast.specs.declared.words.Sign.TheVariants as s
 use Rattle.sql_ast.specs.declared.token.Token.{Token}
 use Rattle.sql_ast.specs.declared.token.Lexeme.{Lexeme}

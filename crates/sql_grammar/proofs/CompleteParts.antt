@@ -10,8 +10,8 @@ use Rattle.sql_ast.specs.declared.expr.Expr.{Expr}
 use Rattle.sql_ast.specs.declared.query.Query.{Query, roll-Query}
 use Rattle.sql_ast.specs.declared.query.SetTerm.{SetTerm}
 use Rattle.sql_ast.specs.declared.query.Term.{Term}
-use Rattle.sql_ast.specs.declared.words.Reserved.{Reserved}
-use Rattle.sql_ast.specs.declared.words.Reserved.TheVariants as r
+use Rattle.sql_names.specs.declared.words.Reserved.{Reserved}
+use Rattle.sql_names.specs.declared.words.Reserved.TheVariants as r
 use Rattle.sql_ast.specs.declared.words.Sign.{Sign}
 use Rattle.sql_ast.specs.declared.words.Sign.TheVariants as s
 use Rattle.sql_ast.specs.declared.token.Token.{Token}

@@ -13,7 +13,7 @@ use Rattle.sql_ast.specs.declared.clauses.WithOffset.{WithOffset}
 use Rattle.sql_ast.specs.declared.expr.Expr.{Expr}
 use Rattle.sql_ast.specs.declared.query.Primary.{Primary}
 use Rattle.sql_ast.specs.declared.query.Primary.TheVariants as primary_kind
-use Rattle.sql_ast.specs.declared.words.Reserved.TheVariants as r
+use Rattle.sql_names.specs.declared.words.Reserved.TheVariants as r
 use Rattle.sql_ast.specs.declared.words.Sign.TheVariants as s
 use Rattle.sql_ast.specs.declared.words.Word.{Word}
 use Rattle.sql_ast.specs.declared.words.Word.TheVariants as w

@@ -4,7 +4,7 @@ use Rattle.std.proofs.lemmas.List.{append_assoc, append-nil, length-append}
 use Rattle.fronts.specs.Fronts.{Language}
 use Rattle.fronts.specs.Readers.{Outcome, taken, stuck, and_then, ◌>>=◌, peek, next, comes, token, many}
 use Rattle.fronts.proofs.Agrees.{Many, many_none, many_more, Found}
-use Rattle.sql_ast.specs.declared.words.Reserved.{Reserved}
+use Rattle.sql_names.specs.declared.words.Reserved.{Reserved}
 use Rattle.sql_ast.specs.declared.words.Sign.{Sign}
 use Rattle.sql_ast.specs.declared.words.Sign.TheVariants as s
 use Rattle.sql_ast.specs.declared.words.Word.{Word}

@@ -2,11 +2,11 @@
 -- steps of such a proof.
 use Rattle.std.proofs.Common.{◌≡◌, ℕ, ◌<◌, ◌≤◌, true, List, [], ◌∷◌, Option, Some, None, refl, sym, ap}
 use denote.Enum.Bare.{same_true}
-use Rattle.sql_ast.specs.contracts.words.Reserved as reserved_contract
+use Rattle.sql_names.specs.contracts.words.Reserved as reserved_contract
 use Rattle.sql_ast.specs.contracts.words.Word as word_contract
 use Rattle.sql_ast.specs.contracts.words.Sign as sign_contract
-use Rattle.sql_ast.specs.declared.words.Reserved.{Reserved}
-use Rattle.sql_ast.specs.declared.words.Reserved.TheVariants as r
+use Rattle.sql_names.specs.declared.words.Reserved.{Reserved}
+use Rattle.sql_names.specs.declared.words.Reserved.TheVariants as r
 use Rattle.sql_ast.specs.declared.words.Sign.{Sign}
 use Rattle.sql_ast.specs.declared.words.Sign.TheVariants as s
 use Rattle.sql_ast.specs.declared.words.Word.{Word}
