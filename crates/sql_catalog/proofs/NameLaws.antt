@@ -13,7 +13,7 @@ use Rattle.std.proofs.lemmas.Cmp.{on_equiv, nat_list_eq_equiv}
 use Rattle.std.proofs.lemmas.List.{append_assoc, map_push}
 use Rattle.std.specs.Str.{str_to_ascii_lowercase}
 use Rattle.std.specs.List.Sorted.{IsPermutation}
-use Rattle.sql_ast.specs.Words.{same_name}
+use Rattle.sql_names.specs.Words.{same_name}
 use Rattle.sql_catalog.specs.declared.entries.Definition.{Definition}
 use Rattle.sql_catalog.specs.declared.entries.Definition.TheVariants.{View, Function}
 use Rattle.sql_catalog.specs.declared.entries.Entries.{Entries}

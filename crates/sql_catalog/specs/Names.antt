@@ -2,7 +2,7 @@
 use Rattle.std.specs.Prelude.{◌≡◌, ◌<◌, ℕ, Bool, true, false, ◌||◌, List, [], ◌∷◌, ◌++◌, map, length, position, slice_get, Option, Some, None}
 use Rattle.std.specs.List.{list_any, IsDistinct}
 use Rattle.std.specs.Option.{option_map}
-use Rattle.sql_ast.specs.Words.{same_name}
+use Rattle.sql_names.specs.Words.{same_name}
 use Rattle.sql_catalog.specs.declared.built_in.TheConstants.{BUILT_IN_NAMES}
 use Rattle.sql_catalog.specs.declared.entries.Definition.{Definition}
 use Rattle.sql_catalog.specs.declared.entries.Definition.TheVariants.{View, Function}

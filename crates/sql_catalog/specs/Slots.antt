@@ -4,7 +4,7 @@ use Rattle.std.specs.Bool.{beq}
 use Rattle.std.specs.Cmp.Lexicographic.{pointwise}
 use Rattle.std.specs.Ordering.{on, eq_of_both}
 use Rattle.std.specs.Str.{str_to_ascii_lowercase}
-use Rattle.sql_ast.specs.Words.{same_name}
+use Rattle.sql_names.specs.Words.{same_name}
 use Rattle.sql_catalog.specs.declared.slot.Slot.{Slot}
 use Rattle.sql_catalog.specs.declared.slot.Slot.TheVariants.{Held, Sought}
 

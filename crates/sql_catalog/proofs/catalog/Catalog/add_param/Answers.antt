@@ -1,6 +1,6 @@
 use Rattle.std.proofs.Common.{◌++◌, ◌∷◌, [], ap, sym, ◌∙◌}
 use Rattle.std.specs.List.{list_any}
-use Rattle.sql_ast.specs.Words.{same_name}
+use Rattle.sql_names.specs.Words.{same_name}
 use Rattle.sql_catalog.specs.Names.{TakenOnce, taken_by_params}
 use Rattle.sql_catalog.proofs.AddLaws.{either_way, Adds-along}
 use Rattle.sql_catalog.proofs.NameLaws.{has_name-map, TakenOnce-param}

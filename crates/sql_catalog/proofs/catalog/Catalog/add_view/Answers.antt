@@ -1,6 +1,6 @@
 use Rattle.std.proofs.Common.{false, ◌++◌, ◌∷◌, [], ap, sym, ◌∙◌}
 use Rattle.std.specs.List.{list_any}
-use Rattle.sql_ast.specs.Words.{same_name}
+use Rattle.sql_names.specs.Words.{same_name}
 use Rattle.sql_catalog.specs.declared.entries.Definition.TheVariants.{View}
 use Rattle.sql_catalog.specs.Names.{TakenOnce, taken_in_from}
 use Rattle.sql_catalog.specs.Slots.{goes_by}

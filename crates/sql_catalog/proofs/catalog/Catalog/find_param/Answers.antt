@@ -1,6 +1,6 @@
 use Rattle.std.proofs.Common.{◌<◌, length, ap, ◌∙◌, subst}
 use Rattle.std.specs.Prelude.{IfSome}
-use Rattle.sql_ast.specs.Words.{same_name}
+use Rattle.sql_names.specs.Words.{same_name}
 use Rattle.sql_catalog.specs.Names.{find_param}
 use Rattle.sql_catalog.proofs.NameLaws.{position-within}
 use Rattle.sql_catalog.proofs.catalog.Catalog.find_param.Goals as goal
