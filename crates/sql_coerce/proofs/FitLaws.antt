@@ -53,14 +53,14 @@ same-rows (f ∷ fs) (g ∷ gs) (x ∷ xs) same fit =
     let fits_both = and_parts (fits f.ty.0 x) (fits_row (bare_fields Same fs) xs) fit in
     and-true (fits g.ty x) (fits_row gs xs) (f.ty.1 g.ty x typed.0 fits_both.0) (same-rows fs gs xs typed.1 fits_both.1)
 
-null-fits : (m : t.SqlType-F SqlType) → fits_at m v.Null ≡ true
-null-fits t.Bool = refl
-null-fits _ = refl
+pub null_fits : (m : t.SqlType-F SqlType) → fits_at m v.Null ≡ true
+null_fits t.Bool = refl
+null_fits _ = refl
 
 same-values : (parts : t.SqlType-F (With Same)) (m : t.SqlType-F SqlType) (a : v.Value-F Value) → same_at (bare Same parts) m ≡ true → fits_at (bare Same parts) a ≡ true → fits_at m a ≡ true
 same-values (t.Array e) (t.Array f) (v.Array xs) same fit = all-along (fits e.0) (fits f) (λ x. e.1 f x same) xs fit
 same-values (t.Struct fs) (t.Struct gs) (v.Struct xs) same fit = same-rows fs gs xs same fit
-same-values l m v.Null same fit = null-fits m
+same-values l m v.Null same fit = null_fits m
 same-values t.Bool t.Bool a same fit = fit
 same-values t.Int32 t.Int32 a same fit = fit
 same-values t.Int64 t.Int64 a same fit = fit
@@ -81,3 +81,6 @@ same-step parts other x same fit =
 
 pub same_fits : (ty other : SqlType) (x : Value) → same_type ty other ≡ true → fits ty x ≡ true → fits other x ≡ true
 same_fits = by_parts Same same-step
+
+pub array_fits : (e f : SqlType) (xs : List Value) → same_type e f ≡ true → list_all (fits e) xs ≡ true → list_all (fits f) xs ≡ true
+array_fits e f xs same fit = all-along (fits e) (fits f) (λ x. same_fits e f x same) xs fit

@@ -8,4 +8,5 @@ pub mod Behind
 pub mod Numbers
 pub mod FitLaws
 pub mod ByteLaws
+pub mod CastFits
 mod Examples
