@@ -18,16 +18,16 @@ use Rattle.sql_types.specs.declared.value.Value.TheVariants as value
 
 -- ---- what holds of each part of a type holds of the type
 
-abbrev With : (SqlType → Type 0) → Type 0
+abbrev pub With : (SqlType → Type 0) → Type 0
 With P = (ty : SqlType) × P ty
 
-abbrev bare : (P : SqlType → Type 0) → t.SqlType-F (With P) → t.SqlType-F SqlType
+abbrev pub bare : (P : SqlType → Type 0) → t.SqlType-F (With P) → t.SqlType-F SqlType
 bare P = map-SqlType (With P) SqlType (λ e. e.0)
 
-abbrev bare_fields : (P : SqlType → Type 0) → List (Named (With P)) → List (Named SqlType)
+abbrev pub bare_fields : (P : SqlType → Type 0) → List (Named (With P)) → List (Named SqlType)
 bare_fields P = map (shapes.former-SqlType-Struct-0-at-2.map (With P) SqlType (λ e. e.0))
 
-by_parts : (P : SqlType → Type 0) → ((parts : t.SqlType-F (With P)) → P (roll-SqlType (bare P parts))) → (ty : SqlType) → P ty
+pub by_parts : (P : SqlType → Type 0) → ((parts : t.SqlType-F (With P)) → P (roll-SqlType (bare P parts))) → (ty : SqlType) → P ty
 by_parts P step = ind-SqlType P (λ x parts is. subst (λ z. P (roll-SqlType z)) is (step parts))
 
 -- ---- the same types have the same values

@@ -9,4 +9,5 @@ pub mod Numbers
 pub mod FitLaws
 pub mod ByteLaws
 pub mod CastFits
+pub mod ConvertedLaws
 mod Examples
