@@ -10,4 +10,5 @@ pub mod FitLaws
 pub mod ByteLaws
 pub mod CastFits
 pub mod ConvertedLaws
+pub mod IdentityLaws
 mod Examples
