@@ -1,12 +1,12 @@
 -- What a cast of a value without fields gives fits its type.
-use Rattle.std.proofs.Common.{◌≡◌, ℕ, ◌≤◌, Bool, true, false, List, [], ◌∷◌, Option, Some, None, if◌then◌else◌, refl, ap, sym, ◌∙◌, arith}
-use Rattle.std.specs.Prelude.{ℤ, pos, negsuc, Ok, Err, option_map, option_and_then, nat_lt, IfSome}
+use Rattle.std.proofs.Common.{◌≡◌, ℕ, ◌≤◌, Bool, true, false, List, Option, Some, None, if◌then◌else◌, refl, ◌∙◌, arith}
+use Rattle.std.specs.Prelude.{ℤ, pos, negsuc, Ok, option_map, option_and_then, nat_lt, IfSome}
 use Rattle.std.proofs.lemmas.Grind.{common_steps}
 use Rattle.std.specs.Str.{is_utf8}
 use Rattle.std.specs.Fmt.{signed_decimal}
 use Rattle.std.proofs.lemmas.Str.{is_utf8-from_IsUtf8}
 use Rattle.sql_types.specs.Outcome.{Outcome}
-use Rattle.sql_types.specs.Fits.{fits, within, is_day}
+use Rattle.sql_types.specs.Fits.{within, is_day}
 use Rattle.sql_types.specs.Calendar.{read_date, date_text}
 use Rattle.sql_types.proofs.DateTextLaws.{read_date-fits, utf8-date_text}
 use Rattle.sql_types.proofs.ValueOpens.{fits_at}

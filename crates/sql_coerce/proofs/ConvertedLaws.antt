@@ -1,10 +1,10 @@
 -- Casts of whole types: what is cast fits, what coerces can be cast, and a type is cast to itself unchanged.
-use Rattle.std.proofs.Common.{◌≡◌, ℕ, Bool, true, false, ◌&&◌, ◌||◌, List, [], ◌∷◌, map, Option, Some, None, refl, ap, sym, ◌∙◌, subst, arith}
-use Rattle.std.specs.Prelude.{ℤ, pos, negsuc, Result, Ok, Err}
+use Rattle.std.proofs.Common.{◌≡◌, Bool, true, false, ◌||◌, List, [], ◌∷◌, refl, ap, sym, ◌∙◌}
+use Rattle.std.specs.Prelude.{Result, Ok, Err, IfOk}
 use Rattle.std.proofs.lemmas.Bool.{and_parts}
-use Rattle.sql_types.specs.Outcome.{Outcome}
+use Rattle.sql_types.specs.declared.fault.CallFault.{CallFault}
+use Rattle.sql_types.specs.Outcome.{Outcome, Answers, just}
 use Rattle.sql_types.specs.Fits.{fits, fits_row}
-use Rattle.sql_types.specs.SameType.{same_type}
 use Rattle.sql_types.proofs.ValueOpens.{fits_at, fits_opens}
 use Rattle.sql_types.specs.declared.sql_type.Named.{Named}
 use Rattle.sql_types.specs.declared.sql_type.SqlType.{SqlType, out-SqlType, roll-SqlType, out-roll-SqlType}
@@ -15,7 +15,7 @@ use Rattle.sql_types.specs.declared.value.Value.TheVariants as value
 use Rattle.sql_coerce.specs.declared.arg.Kind.{Kind}
 use Rattle.sql_coerce.specs.declared.arg.Kind.TheVariants as kind
 use Rattle.sql_coerce.specs.Coercions.{coerces, other_coerces, fields_coerce, literal_layer, parameter_layer}
-use Rattle.sql_coerce.specs.Casts.{castable, fields_castable, converted, fields_converted, before_values, struct_value, plain_cast}
+use Rattle.sql_coerce.specs.Casts.{castable, fields_castable, converted, fields_converted, before_values, struct_value}
 use Rattle.sql_coerce.proofs.Levels.{other_at, other_coerces_level}
 use Rattle.sql_coerce.proofs.CastLevels.{castable_at, castable_level, converted_at, converted_level}
 use Rattle.sql_coerce.proofs.ByValue.{plain_at, is_struct, Fitting, fits_moved}
@@ -83,13 +83,19 @@ cast-step parts to x y cast fit is =
     let left : out-SqlType whole ≡ bare Cast parts = out-roll-SqlType (bare Cast parts) in
     fits_opens to y
     ∙ cast-level parts (out-SqlType to) (out-Value x) y
-      (ap (λ l. castable_at l (out-SqlType to)) (sym left) ∙ sym (castable_level whole to) ∙ cast)
-      (ap (λ l. fits_at l (out-Value x)) (sym left) ∙ sym (fits_opens whole x) ∙ fit)
-      (ap (λ l. converted_at l (out-SqlType to) (out-Value x)) (sym left) ∙ sym (converted_level whole to x) ∙ is)
+    (ap (λ l. castable_at l (out-SqlType to)) (sym left) ∙ sym (castable_level whole to) ∙ cast)
+    (ap (λ l. fits_at l (out-Value x)) (sym left) ∙ sym (fits_opens whole x) ∙ fit)
+    (ap (λ l. converted_at l (out-SqlType to) (out-Value x)) (sym left) ∙ sym (converted_level whole to x) ∙ is)
 
 -- a converted value fits its target
 pub converted_fits : (from to : SqlType) (x y : Value) → castable from to ≡ true → fits from x ≡ true → converted from to x ≡ Ok y → fits to y ≡ true
 converted_fits = by_parts Cast cast-step
+
+-- what a call answers fits where it is what the cast gives
+pub answers_fit : (from to : SqlType) (x : Value) (r : Result Value CallFault) → castable from to ≡ true → fits from x ≡ true → Answers (just (converted from to x)) r
+    → IfOk r (λ y. fits to y ≡ true)
+answers_fit from to x (Ok y) cast fit answers = converted_fits from to x y cast fit (sym answers)
+answers_fit from to x (Err fault) cast fit answers = tt
 
 -- ---- what coerces can be cast
 

@@ -1,20 +1,17 @@
 -- What is cast fits the type that it is cast to.
-use Rattle.std.proofs.Common.{◌≡◌, ℕ, Bool, true, false, ◌&&◌, List, [], ◌∷◌, map, Option, Some, None, if◌then◌else◌, refl, ap, sym, ◌∙◌, subst}
-use Rattle.std.specs.Prelude.{ℤ, pos, negsuc, Ok, Err, Result}
+use Rattle.std.proofs.Common.{◌≡◌, Bool, true, ◌&&◌, List, [], ◌∷◌, map, refl, ap, sym, ◌∙◌, subst}
 use Rattle.std.proofs.lemmas.Bool.{and_parts}
 use Rattle.std.specs.List.{list_all}
-use Rattle.sql_types.specs.Outcome.{Outcome}
-use Rattle.sql_types.specs.Fits.{fits, fits_layer, fits_row}
+use Rattle.sql_types.specs.Fits.{fits, fits_row}
 use Rattle.sql_types.specs.SameType.{same_type, same_label, same_fields_of}
 use Rattle.sql_types.proofs.TypeOpens.{same_at, same_opens}
 use Rattle.sql_types.proofs.ValueOpens.{fits_at, fits_opens}
 use Rattle.sql_types.specs.declared.sql_type.Named.{Named}
-use Rattle.sql_types.specs.declared.sql_type.SqlType.{SqlType, map-SqlType, out-SqlType, roll-SqlType, roll-out-SqlType, out-roll-SqlType, ind-SqlType}
+use Rattle.sql_types.specs.declared.sql_type.SqlType.{SqlType, map-SqlType, out-SqlType, roll-SqlType, out-roll-SqlType, ind-SqlType}
 use Rattle.sql_types.specs.declared.sql_type.SqlType.TheOpen as t
 use Rattle.sql_types.specs.declared.sql_type.SqlType.TheShapes as shapes
 use Rattle.sql_types.specs.declared.value.Value.{Value, out-Value}
 use Rattle.sql_types.specs.declared.value.Value.TheOpen as v
-use Rattle.sql_types.specs.declared.value.Value.TheVariants as value
 
 -- ---- what holds of each part of a type holds of the type
 
@@ -76,8 +73,8 @@ same-step parts other x same fit =
     let left : out-SqlType (roll-SqlType (bare Same parts)) ≡ bare Same parts = out-roll-SqlType (bare Same parts) in
     fits_opens other x
     ∙ same-values parts (out-SqlType other) (out-Value x)
-      (ap (λ l. same_at l (out-SqlType other)) (sym left) ∙ sym (same_opens (roll-SqlType (bare Same parts)) other) ∙ same)
-      (ap (λ l. fits_at l (out-Value x)) (sym left) ∙ sym (fits_opens (roll-SqlType (bare Same parts)) x) ∙ fit)
+    (ap (λ l. same_at l (out-SqlType other)) (sym left) ∙ sym (same_opens (roll-SqlType (bare Same parts)) other) ∙ same)
+    (ap (λ l. fits_at l (out-Value x)) (sym left) ∙ sym (fits_opens (roll-SqlType (bare Same parts)) x) ∙ fit)
 
 pub same_fits : (ty other : SqlType) (x : Value) → same_type ty other ≡ true → fits ty x ≡ true → fits other x ≡ true
 same_fits = by_parts Same same-step

@@ -1,6 +1,6 @@
 -- A type is cast to itself, and a value of it is cast to itself.
-use Rattle.std.proofs.Common.{◌≡◌, ℕ, Bool, true, false, ◌&&◌, List, [], ◌∷◌, Option, Some, None, if◌then◌else◌, refl, ap, sym, ◌∙◌, arith}
-use Rattle.std.specs.Prelude.{ℤ, pos, negsuc, Ok, Err, nat_lt}
+use Rattle.std.proofs.Common.{◌≡◌, ℕ, true, ◌&&◌, List, [], ◌∷◌, refl, ap, sym, ◌∙◌, arith}
+use Rattle.std.specs.Prelude.{ℤ, pos, negsuc, Ok, nat_lt}
 use Rattle.std.proofs.lemmas.Grind.{common_steps}
 use Rattle.std.proofs.lemmas.Bool.{and_parts}
 use Rattle.sql_types.specs.Outcome.{Outcome}
@@ -14,7 +14,7 @@ use Rattle.sql_types.specs.declared.sql_type.SqlType.TheOpen as t
 use Rattle.sql_types.specs.declared.value.Value.{Value, out-Value, roll-Value, roll-out-Value}
 use Rattle.sql_types.specs.declared.value.Value.TheOpen as v
 use Rattle.sql_types.specs.declared.value.Value.TheVariants as value
-use Rattle.sql_coerce.specs.Casts.{castable, fields_castable, converted, fields_converted, before_values, struct_value, or_cast_fault, signed_value, unsigned_value}
+use Rattle.sql_coerce.specs.Casts.{castable, fields_castable, converted, fields_converted, struct_value, or_cast_fault, signed_value, unsigned_value}
 use Rattle.sql_coerce.proofs.CastLevels.{castable_at, castable_level, converted_at, converted_level}
 use Rattle.sql_coerce.proofs.FitLaws.{With, bare, bare_fields, by_parts}
 
@@ -117,8 +117,8 @@ kept-step parts to x is fit =
     converted_level whole to x
     ∙ ap (λ l. converted_at l (out-SqlType to) (out-Value x)) left
     ∙ kept-level parts (out-SqlType to) (out-Value x)
-      (ap (λ l. same_at l (out-SqlType to)) (sym left) ∙ sym (same_opens whole to) ∙ is)
-      (ap (λ l. fits_at l (out-Value x)) (sym left) ∙ sym (fits_opens whole x) ∙ fit)
+    (ap (λ l. same_at l (out-SqlType to)) (sym left) ∙ sym (same_opens whole to) ∙ is)
+    (ap (λ l. fits_at l (out-Value x)) (sym left) ∙ sym (fits_opens whole x) ∙ fit)
     ∙ ap ok (roll-out-Value x)
 
 -- a value is cast to itself where the types are the same
