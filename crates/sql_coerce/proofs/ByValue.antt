@@ -8,6 +8,7 @@ use Rattle.sql_types.specs.declared.sql_type.Named.{Named}
 use Rattle.sql_types.specs.Outcome.{Outcome, Answers, just}
 use Rattle.sql_types.specs.Fits.{fits, fits_layer, fits_fields, fits_row}
 use Rattle.sql_types.proofs.Opens.{fits-opens}
+use Rattle.sql_types.proofs.ValueOpens.{fits_at}
 use Rattle.sql_types.specs.declared.sql_type.SqlType.{SqlType, map-SqlType, out-SqlType, roll-SqlType, roll-out-SqlType}
 use Rattle.sql_types.specs.declared.sql_type.SqlType.TheOpen as t
 use Rattle.sql_types.specs.declared.sql_type.SqlType.TheVariants as ty
@@ -18,10 +19,10 @@ use Rattle.sql_types.specs.declared.value.Value.TheOpen as v
 use Rattle.sql_coerce.specs.Casts.{castable, fields_castable, converted, struct_value, fields_converted, plain_cast, day_fits}
 use Rattle.sql_coerce.proofs.CastLevels.{converted_at, converted_level, castable_at, castable_level, castable_structs}
 
-abbrev Fitting : t.SqlType-F SqlType → v.Value-F Value → Type 0
+abbrev pub Fitting : t.SqlType-F SqlType → v.Value-F Value → Type 0
 Fitting ty x = fits_layer (map-SqlType SqlType (Value → Bool) fits ty) x ≡ true
 
-abbrev is_struct : v.Value-F Value → Bool
+abbrev pub is_struct : v.Value-F Value → Bool
 is_struct (v.Struct xs) = true
 is_struct _ = false
 
@@ -36,7 +37,7 @@ err fault = Err fault
 
 -- ---- one level
 
-plain_at : (l m : t.SqlType-F SqlType) (x : v.Value-F Value) → castable_at l m ≡ true → Fitting l x → is_struct x ≡ false → converted_at l m x ≡ plain_cast x m
+pub plain_at : (l m : t.SqlType-F SqlType) (x : v.Value-F Value) → castable_at l m ≡ true → Fitting l x → is_struct x ≡ false → converted_at l m x ≡ plain_cast x m
 plain_at (t.Struct fs) (t.Struct gs) v.Null cast fit plain = refl
 plain_at (t.Struct fs) _ v.Null cast fit plain = refl
 plain_at t.Bool m v.Null cast fit plain = refl
@@ -144,3 +145,9 @@ struct_castable from to froms tos f t cast = sym (castable_structs froms tos) �
 
 pub struct_row : (from : SqlType) (froms : List (Named SqlType)) (xs : List Value) → from ≡ ty.Struct froms → fits from (value.Struct xs) ≡ true → fits_row froms xs ≡ true
 struct_row from froms xs f fit = sym (struct_fits froms xs) ∙ (rw f at fit)
+
+-- one level of what fits, the parts as they stand
+pub fits_moved : (l : t.SqlType-F SqlType) (x : v.Value-F Value) → fits_layer (map-SqlType SqlType (Value → Bool) fits l) x ≡ fits_at l x
+fits_moved (t.Struct fs) (v.Struct xs) = fields-fit fs xs
+fits_moved (t.Array element) (v.Array xs) = refl
+fits_moved _ _ = refl

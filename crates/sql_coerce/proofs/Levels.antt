@@ -4,7 +4,7 @@ use Rattle.sql_types.specs.declared.sql_type.Named.{Named}
 use Rattle.sql_types.specs.declared.sql_type.SqlType.{SqlType, map-SqlType, out-SqlType}
 use Rattle.sql_types.specs.declared.sql_type.SqlType.TheOpen as t
 use Rattle.sql_types.specs.declared.sql_type.SqlType.TheShapes as shapes
-use Rattle.sql_types.specs.SameType.{same_type, same_type_layer, same_label, same_fields, same_fields_of}
+use Rattle.sql_types.specs.SameType.{same_type}
 use Rattle.sql_coerce.specs.Coercions.{Part, other_coerces, other_layer, coerces_fields, fields_coerce}
 use Rattle.sql_types.specs.declared.sql_type.SqlType.TheVariants as ty
 use Rattle.sql_coerce.proofs.Opens.{other_coerces-opens}

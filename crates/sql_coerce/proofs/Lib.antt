@@ -8,4 +8,7 @@ pub mod Behind
 pub mod Numbers
 pub mod FitLaws
 pub mod ByteLaws
+pub mod CastFits
+pub mod ConvertedLaws
+pub mod IdentityLaws
 mod Examples

@@ -4,7 +4,6 @@ use Rattle.sql_types.specs.Outcome.{Outcome}
 use Rattle.sql_types.specs.declared.sql_type.SqlType.{SqlType, map-SqlType, out-SqlType, roll-out-SqlType, fold-roll-SqlType, para-roll-SqlType}
 use Rattle.sql_types.specs.declared.sql_type.SqlType.TheOpen as t
 use Rattle.sql_types.specs.declared.value.Value.{Value, out-Value}
-use Rattle.sql_types.specs.SameType.{same_type, same_type_layer}
 use Rattle.sql_coerce.specs.Coercions.{other_coerces, other_layer}
 use Rattle.sql_coerce.specs.Supertypes.{Meet, Member, meet, meet_layer}
 use Rattle.sql_coerce.specs.Casts.{castable, castable_layer, converted, converted_layer}

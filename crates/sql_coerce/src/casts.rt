@@ -10,7 +10,9 @@ ghost use Rattle.sql_coerce.specs.Numerals.{integer};
 
 use crate::numerals::read_integer;
 use itoa::Buffer;
-use sql_types::{Bytes, CallFault, FaultKind, Items, SqlType, Text, Value, copy_values, date_text, read_date};
+use sql_types::{
+    Bytes, CallFault, FaultKind, Items, SqlType, Text, Value, copy_values, date_text, read_date,
+};
 use std::alloc::Global;
 use std::str;
 

@@ -1,5 +1,5 @@
 //! The cast of a whole value.
-ghost use Rattle.std.specs.Prelude.{◌≡◌, true};
+ghost use Rattle.std.specs.Prelude.{◌≡◌, true, IfOk};
 ghost use Rattle.sql_types.specs.Fits.{fits, fits_row};
 ghost use Rattle.sql_types.specs.Outcome.{Answers, just};
 ghost use Rattle.sql_types.specs.declared.value.Value.TheVariants as value;
@@ -21,7 +21,8 @@ pub fn convert(
 ) -> Result<Value, CallFault>
     requires castable { casts.castable from.now to.now ≡ true }
     requires fits { fits from.now value.now ≡ true }
-    ensures { Answers (just (casts.converted from.now to.now value.now)) result }
+    ensures converts { Answers (just (casts.converted from.now to.now value.now)) result }
+    ensures fits { IfOk result (λ answer. fits to.now answer ≡ true) }
 {
     match value {
         Value::Struct(values) => convert_struct(alloc, values, from, to),

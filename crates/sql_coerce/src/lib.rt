@@ -11,6 +11,8 @@ mod member;
 pub mod numerals;
 pub mod pairs;
 pub mod supertypes;
+#[cfg(test)]
+mod tests;
 
 pub use arg::{Arg, Kind};
 pub use casts::read_bool;

@@ -1,14 +1,24 @@
-use Rattle.std.proofs.Common.{◌≡◌, sym, subst, rules, drop, List, []}
+use Rattle.std.proofs.Common.{ap, ◌∙◌, ◌≡◌, sym, subst, rules, drop, List, []}
 use Rattle.std.proofs.lemmas.List.{drop_all}
 use Rattle.sql_types.specs.declared.value.Value.{Value}
-use Rattle.sql_coerce.specs.Casts.{fields_converted}
+use Rattle.sql_types.specs.Fits.{fits}
+use Rattle.sql_types.specs.declared.value.Value.TheVariants as value
+use Rattle.sql_coerce.specs.Casts.{converted, fields_converted}
+use Rattle.sql_coerce.proofs.ConvertedLaws.{answers_fit}
 use Rattle.sql_coerce.proofs.ByValue.{day_fitting, struct_castable, struct_row, plain_converted, answers_along, no_struct_from, no_struct_to, struct_ok, struct_err}
 use Rattle.sql_coerce.proofs.Behind.{behind_all}
 use Rattle.sql_coerce.proofs.conversions.+convert.Goals as goal
 
 pub convert-returns-in_default : goal.convert-returns-in_default
 convert-returns-in_default t c =
-    answers_along _ _ c.cast_plain.result (plain_converted c.args.from.now c.args.to.now c.args.value.now c.in_default.not-Struct c.requires.castable c.requires.fits) c.cast_plain.ensures
+    let along = answers_along (converted c.args.from.now c.args.to.now c.args.value.now) _ c.cast_plain.result
+    (plain_converted c.args.from.now c.args.to.now c.args.value.now c.in_default.not-Struct c.requires.castable c.requires.fits) c.cast_plain.ensures in
+    record { converts = along; fits = answers_fit c.args.from.now c.args.to.now c.args.value.now c.cast_plain.result c.requires.castable c.requires.fits along }
+
+pub convert-returns-in-Struct-clause-fits : goal.convert-returns-in-Struct-clause-fits
+convert-returns-in-Struct-clause-fits t c =
+    answers_fit c.args.from.now c.args.to.now (value.Struct c.in-Struct.values) c.convert_struct.result c.requires.castable
+    (ap (fits c.args.from.now) (sym c.in-Struct.is) ∙ c.requires.fits) c.convert_struct.ensures
 
 pub convert_struct-convert_fields-requires : goal.convert_struct-convert_fields-requires
 convert_struct-convert_fields-requires t c = (
