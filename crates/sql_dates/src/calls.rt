@@ -45,7 +45,10 @@ pub fn date_add_date_int64_string(values: &[Value]) -> Result<Value, CallFault>
 {
     match (date_at(values, 0), int_at(values, 1), part_at(values, 2)) {
         (Some(day), Some(count), Some(part)) => {
-            dated(parts_after(part, i128::from(count), day), FaultKind::OutOfRange)
+            dated(
+                parts_after(part, i128::from(count), day),
+                FaultKind::OutOfRange,
+            )
         }
         _ => Ok(Value::Null),
     }
@@ -60,7 +63,10 @@ pub fn date_sub_date_int64_string(values: &[Value]) -> Result<Value, CallFault>
 {
     match (date_at(values, 0), int_at(values, 1), part_at(values, 2)) {
         (Some(day), Some(count), Some(part)) => {
-            dated(parts_after(part, -i128::from(count), day), FaultKind::OutOfRange)
+            dated(
+                parts_after(part, -i128::from(count), day),
+                FaultKind::OutOfRange,
+            )
         }
         _ => Ok(Value::Null),
     }

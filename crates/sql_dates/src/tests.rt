@@ -39,9 +39,27 @@ const MOVED: [(&str, i64, &str, &str, &str); 24] = [
     ("0001-06-01", 1, "YEAR", "0002-06-01", "OUT_OF_RANGE"),
     ("9998-02-28", 1, "YEAR", "9999-02-28", "9997-02-28"),
     // counts whose multiples pass 64 bits
-    ("2024-01-01", i64::MIN, "DAY", "OUT_OF_RANGE", "OUT_OF_RANGE"),
-    ("2024-01-01", 2_635_249_153_387_078_802, "WEEK", "OUT_OF_RANGE", "OUT_OF_RANGE"),
-    ("2024-01-01", i64::MAX, "YEAR", "OUT_OF_RANGE", "OUT_OF_RANGE"),
+    (
+        "2024-01-01",
+        i64::MIN,
+        "DAY",
+        "OUT_OF_RANGE",
+        "OUT_OF_RANGE",
+    ),
+    (
+        "2024-01-01",
+        2_635_249_153_387_078_802,
+        "WEEK",
+        "OUT_OF_RANGE",
+        "OUT_OF_RANGE",
+    ),
+    (
+        "2024-01-01",
+        i64::MAX,
+        "YEAR",
+        "OUT_OF_RANGE",
+        "OUT_OF_RANGE",
+    ),
     ("", 1, "DAY", "NULL", "NULL"),
 ];
 
@@ -51,8 +69,14 @@ fn moves_dates(rt: HostRuntime) -> Result<(), Fail> {
     for (day, count, part, later, earlier) in MOVED {
         assert!(rt; part_named(part.as_bytes()).is_some());
         let added = [date_value(day), int_value(count), part_value(alloc, part)?];
-        assert_eq!(rt; shown(alloc, date_add_date_int64_string(&added))?.as_str(), later);
-        assert_eq!(rt; shown(alloc, date_sub_date_int64_string(&added))?.as_str(), earlier);
+        assert_eq!(rt;
+            shown(alloc, date_add_date_int64_string(&added))?.as_str(),
+            later
+        );
+        assert_eq!(rt;
+            shown(alloc, date_sub_date_int64_string(&added))?.as_str(),
+            earlier
+        );
     }
     Ok(())
 }
@@ -78,10 +102,16 @@ fn makes_dates(rt: HostRuntime) -> Result<(), Fail> {
     let alloc = rt.alloc();
     for (year, month, day, want) in MADE {
         let values = [int_value(year), int_value(month), int_value(day)];
-        assert_eq!(rt; shown(alloc, date_int64_int64_int64(&values))?.as_str(), want);
+        assert_eq!(rt;
+            shown(alloc, date_int64_int64_int64(&values))?.as_str(),
+            want
+        );
     }
     let null = [int_value(2023), null_value(), int_value(31)];
-    assert_eq!(rt; shown(alloc, date_int64_int64_int64(&null))?.as_str(), "NULL");
+    assert_eq!(rt;
+        shown(alloc, date_int64_int64_int64(&null))?.as_str(),
+        "NULL"
+    );
     Ok(())
 }
 
@@ -118,7 +148,10 @@ fn counts_boundaries(rt: HostRuntime) -> Result<(), Fail> {
     for (day, from, part, want) in DIFFERENCES {
         assert!(rt; part_named(part.as_bytes()).is_some());
         let values = [date_value(day), date_value(from), part_value(alloc, part)?];
-        assert_eq!(rt; shown(alloc, date_diff_date_date_string(&values))?.as_str(), want);
+        assert_eq!(rt;
+            shown(alloc, date_diff_date_date_string(&values))?.as_str(),
+            want
+        );
     }
     Ok(())
 }
@@ -148,7 +181,10 @@ fn finds_starts(rt: HostRuntime) -> Result<(), Fail> {
     for (day, part, want) in STARTS {
         assert!(rt; part_named(part.as_bytes()).is_some());
         let values = [date_value(day), part_value(alloc, part)?];
-        assert_eq!(rt; shown(alloc, date_trunc_date_string(&values))?.as_str(), want);
+        assert_eq!(rt;
+            shown(alloc, date_trunc_date_string(&values))?.as_str(),
+            want
+        );
     }
     Ok(())
 }
@@ -200,7 +236,10 @@ fn counts_from_1970(rt: HostRuntime) -> Result<(), Fail> {
     let alloc = rt.alloc();
     for (days, want) in UNIX {
         let values = [int_value(days)];
-        assert_eq!(rt; shown(alloc, date_from_unix_date_int64(&values))?.as_str(), want);
+        assert_eq!(rt;
+            shown(alloc, date_from_unix_date_int64(&values))?.as_str(),
+            want
+        );
     }
     let table = [
         ("1970-01-01", "0"),
@@ -209,9 +248,15 @@ fn counts_from_1970(rt: HostRuntime) -> Result<(), Fail> {
         ("", "NULL"),
     ];
     for (day, want) in table {
-        assert_eq!(rt; shown(alloc, unix_date_date(&[date_value(day)]))?.as_str(), want);
+        assert_eq!(rt;
+            shown(alloc, unix_date_date(&[date_value(day)]))?.as_str(),
+            want
+        );
     }
-    assert_eq!(rt; shown(alloc, date_from_unix_date_int64(&[null_value()]))?.as_str(), "NULL");
+    assert_eq!(rt;
+        shown(alloc, date_from_unix_date_int64(&[null_value()]))?.as_str(),
+        "NULL"
+    );
     Ok(())
 }
 
