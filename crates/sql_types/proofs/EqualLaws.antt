@@ -1,8 +1,8 @@
--- Equality is symmetric, and a value that holds no NULL is equal to itself.
-use Rattle.std.proofs.Common.{◌≡◌, ℕ, ℤ, pos, negsuc, int_le, Bool, true, false, ◌&&◌, List, [], ◌∷◌, map, Some, refl, ap, sym, ◌∙◌, subst, arith}
+-- Equality is symmetric, a value that holds no NULL is equal to itself, and what is equal is the same.
+use Rattle.std.proofs.Common.{◌≡◌, ℕ, ℤ, pos, negsuc, int_le, Bool, true, false, ◌&&◌, List, [], ◌∷◌, map, Option, None, Some, refl, ap, sym, ◌∙◌, subst, arith}
 use Rattle.std.specs.Str.{bytes_eq}
 use Rattle.std.proofs.lemmas.Bool.{false≢true}
-use Rattle.std.proofs.lemmas.Bool.Decides.{nat_tests, same_from_decides}
+use Rattle.std.proofs.lemmas.Bool.Decides.{nat_tests, same_from_decides, Decides-eqb}
 use Rattle.std.proofs.lemmas.Int.{ints}
 use Rattle.std.proofs.lemmas.Slice.Eq.{bytes_eq-Decides}
 use Rattle.sql_types.specs.declared.sql_type.Named.{Named}
@@ -121,3 +121,66 @@ rolled_itself x told ty fit compare none =
 -- a value of a comparable type that holds no NULL is equal to itself
 pub equal_itself : (x : Value) (ty : SqlType) → fits ty x ≡ true → comparable ty ≡ true → holds_null x ≡ false → equal x x ≡ Some true
 equal_itself = ind-Value IsItself (λ x parts is. subst (λ z. IsItself (roll-Value z)) is (rolled_itself _ (itself parts)))
+
+-- ---- what is equal is the same
+
+abbrev IsTheSame : Value → Type 0
+IsTheSame x = (y : Value) → equal x y ≡ Some true → x ≡ y
+
+both_first : (a b : Option Bool) → both_true a b ≡ Some true → a ≡ Some true
+both_first (Some true) b e = refl
+both_first (Some false) b e = e
+both_first None (Some true) e = e
+both_first None (Some false) e = cc
+both_first None None e = e
+
+both_second : (a b : Option Bool) → both_true a b ≡ Some true → b ≡ Some true
+both_second (Some true) b e = e
+both_second (Some false) b e = cc
+both_second None (Some true) e = refl
+both_second None (Some false) e = e
+both_second None None e = e
+
+within : Option Bool → Bool
+within (Some b) = b
+within None = false
+
+number_same : (a b : ℤ) → (int_le a b && int_le b a) ≡ true → a ≡ b
+number_same (pos a) (pos b) e = ap pos (grind (arith, nat_tests, ints))
+number_same (negsuc a) (negsuc b) e = ap negsuc (grind (arith, nat_tests, ints))
+number_same (pos a) (negsuc b) e = absurd (false≢true e)
+number_same (negsuc a) (pos b) e = absurd (false≢true e)
+
+lists_the_same : (parts : List ((x : Value) × IsTheSame x)) (ys : List Value) → equal_fields (map equal (map (λ e. e.0) parts)) ys ≡ Some true → map (λ e. e.0) parts ≡ ys
+lists_the_same [] [] e = refl
+lists_the_same [] (y ∷ ys) e = cc
+lists_the_same (p ∷ parts) [] e = cc
+lists_the_same (p ∷ parts) (y ∷ ys) e =
+    let this = p.1 y (both_first _ _ e) in
+    let rest = lists_the_same parts ys (both_second _ _ e) in
+    λ i. this i ∷ rest i
+
+the_same : (parts : v.Value-F ((x : Value) × IsTheSame x)) (b : v.Value-F Value) →
+    equal_at (map-Value ((x : Value) × IsTheSame x) Value (λ e. e.0) parts) b ≡ Some true → map-Value ((x : Value) × IsTheSame x) Value (λ e. e.0) parts ≡ b
+unfolding within
+the_same (v.Bool true) (v.Bool true) e = refl
+the_same (v.Bool true) (v.Bool false) e = absurd (false≢true (ap within e))
+the_same (v.Bool false) (v.Bool true) e = absurd (false≢true (ap within e))
+the_same (v.Bool false) (v.Bool false) e = refl
+the_same (v.Int a) (v.Int b) e = ap v.Int (number_same a b (ap within e))
+the_same (v.Uint a) (v.Uint b) e = ap v.Uint ((Decides-eqb a b).0 (ap within e))
+the_same (v.Text a) (v.Text b) e = ap v.Text ((bytes_eq-Decides a b).0 (ap within e))
+the_same (v.Bytes a) (v.Bytes b) e = ap v.Bytes ((bytes_eq-Decides a b).0 (ap within e))
+the_same (v.Date a) (v.Date b) e = ap v.Date (number_same a b (ap within e))
+the_same (v.Struct xs) (v.Struct ys) e = ap v.Struct (lists_the_same xs ys e)
+the_same (v.Bool true) _ e = cc
+the_same (v.Bool false) _ e = cc
+the_same _ _ e = cc
+
+rolled_the_same : (x : v.Value-F Value) → ((b : v.Value-F Value) → equal_at x b ≡ Some true → x ≡ b) → IsTheSame (roll-Value x)
+rolled_the_same x told y e =
+    ap roll-Value (told (out-Value y) (ap (λ z. equal_at z (out-Value y)) (sym (out-roll-Value x)) ∙ sym (equal_opens (roll-Value x) y) ∙ e)) ∙ roll-out-Value y
+
+-- values that are equal are the same
+pub equal_same : (x y : Value) → equal x y ≡ Some true → x ≡ y
+equal_same = ind-Value IsTheSame (λ x parts is. subst (λ z. IsTheSame (roll-Value z)) is (rolled_the_same _ (the_same parts)))

@@ -52,9 +52,9 @@ abbrev pub SomeIs : Bool → List (Meaning Value) → Type 0
 SomeIs b [] = ⊥
 SomeIs b (m ∷ ms) = m (Ok (Truth b)) ⊎ SomeIs b ms
 
--- AND and OR over operands, of which each has one outcome. An operand that decides hides the faults of the others, and
--- where none decides any fault of an operand may be the outcome. As with `Gather`, what decides and what faults needs no
--- outcome of the others.
+-- AND and OR over operands that may fault. The outcome may be the value that decides, where some operand may be it, and
+-- any fault that an operand may give, and else it is the three-valued value of what all operands give. As with `Gather`,
+-- what decides and what faults needs no outcome of the others.
 pub data Decided (deciding : Bool) (operands : List (Meaning Value)) : Outcome Value → Type 0 where
   all_valued : (values : List Value) → EachGives operands values → Decided deciding operands (Ok (three_valued deciding values))
   one_decides : SomeIs deciding operands → Decided deciding operands (Ok (Truth deciding))

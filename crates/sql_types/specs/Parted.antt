@@ -30,8 +30,7 @@ Rising [] = Unit {0}
 Rising (i ∷ []) = Unit {0}
 Rising (i ∷ j ∷ more) = (i < j) × Rising (j ∷ more)
 
--- Rows, given by their keys, are parted into these groups: by the order in which their keys appear first, and in each the
--- rows in their own order.
+-- rows, given by their keys, are parted into these groups
 pub record Parted (keys : List (List Value)) (groups : List Group) : Type 0 where
   -- each row is in just one group
   pub whole : Permutes (numbers_from 0 keys) (flat_map (λ g. g.members) groups)
@@ -41,6 +40,7 @@ pub record Parted (keys : List (List Value)) (groups : List Group) : Type 0 wher
   pub apart : Apart (map (λ g. g.key) groups)
   -- no group is empty
   pub filled : Each (λ g. g.members ≡ [] → ⊥) groups
+  -- the rows of a group stand in their own order, and the groups in that of their first rows
   pub in_order : Each (λ g. Rising g.members) groups
   pub by_first : Rising (flat_map (λ g. take 1 g.members) groups)
 

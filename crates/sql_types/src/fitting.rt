@@ -118,7 +118,6 @@ fn is_text(text: &Text) -> bool
 fn are_bytes(bytes: &[u8]) -> bool
     ensures { result ≡ list_all (λ b. nat_lt b 256) bytes.now }
 {
-    let _first = bytes.first();
     true
 }
 

@@ -1,8 +1,8 @@
-//! When values are the same, and when they are equal.
+//! When values are the same.
 ghost use Rattle.std.specs.Prelude.{◌≡◌, ◌↔◌, IsTrue};
 ghost use Rattle.std.specs.Ordering.{int_eq};
 ghost use Rattle.std.specs.Str.{bytes_eq};
-ghost use Rattle.sql_types.specs.Same.{Same, Equal};
+ghost use Rattle.sql_types.specs.Same.{Same};
 ghost use Rattle.sql_types.specs.SameValue as test;
 
 use crate::value::{Value, Values};
@@ -92,16 +92,12 @@ fn same_values(left: &Values, right: &Values) -> bool
 fn same_number(left: &i64, right: &i64) -> bool
     ensures { result ≡ int_eq left.now right.now }
 {
-    let _left = *left;
-    let _right = *right;
     left == right
 }
 
 fn same_day(left: &i32, right: &i32) -> bool
     ensures { result ≡ int_eq left.now right.now }
 {
-    let _left = *left;
-    let _right = *right;
     left == right
 }
 
