@@ -15,3 +15,4 @@ pub mod Parted
 pub mod Combined
 pub mod Arranged
 pub mod Cut
+pub mod Takes
