@@ -1,14 +1,14 @@
 -- When two types are the same.
 use Rattle.std.specs.Prelude.{ℕ, Bool, true, false, ◌&&◌, List, [], ◌∷◌, Option, None, Some}
-use Rattle.std.specs.Str.{str_eq_ignore_ascii_case}
+use Rattle.std.specs.Str.{bytes_eq}
 use Rattle.sql_types.specs.declared.sql_type.Named.{Named}
 use Rattle.sql_types.specs.declared.sql_type.SqlType.{SqlType, fold-SqlType, out-SqlType}
 use Rattle.sql_types.specs.declared.sql_type.SqlType.TheOpen as t
 
--- both fields are unnamed, or their names are the same, the case of ASCII letters aside
+-- both fields are unnamed, or their names are equal as they are written; only look-ups leave case aside
 abbrev pub same_label : Option (List ℕ) → Option (List ℕ) → Bool
 same_label None None = true
-same_label (Some left) (Some right) = str_eq_ignore_ascii_case left right
+same_label (Some left) (Some right) = bytes_eq left right
 same_label _ _ = false
 
 -- as many fields, each with the same name and type; the left fields are given by which types are the same as theirs

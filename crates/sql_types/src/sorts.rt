@@ -51,7 +51,8 @@ pub fn orderable(ty: &SqlType) -> bool
     }
 }
 
-/// Whether two types are the same. The names of STRUCT fields compare without regard to ASCII case.
+/// Whether two types are the same. The names of STRUCT fields are compared as they are written, byte by byte: only
+/// look-ups leave case aside.
 #[cycle(same_type)]
 #[tactic(auto, using(crate::proofs::TypeOpens::same_opens))]
 pub fn same_type(left: &SqlType, right: &SqlType) -> bool
@@ -104,7 +105,7 @@ fn same_label(left: &Option<Text>, right: &Option<Text>) -> bool
         None => right.is_none(),
         Some(name) => match right {
             None => false,
-            Some(other) => name.as_bytes().eq_ignore_ascii_case(other.as_bytes()),
+            Some(other) => name.as_bytes() == other.as_bytes(),
         },
     }
 }

@@ -340,7 +340,7 @@ fn types_that_compare(rt: HostRuntime) -> Result<(), Fail> {
 }
 
 /// Two types, and whether they are the same.
-const SAME_TYPES: [(Form, Form, bool); 11] = [
+const SAME_TYPES: [(Form, Form, bool); 12] = [
     (Form::Int64, Form::Int64, true),
     (Form::Int64, Form::Int32, false),
     (Form::Text, Form::Bytes, false),
@@ -350,6 +350,11 @@ const SAME_TYPES: [(Form, Form, bool); 11] = [
     (
         Form::Pair(Some("a"), &Form::Bool),
         Form::Pair(Some("A"), &Form::Bool),
+        false,
+    ),
+    (
+        Form::Pair(Some("a"), &Form::Bool),
+        Form::Pair(Some("a"), &Form::Bool),
         true,
     ),
     (
