@@ -11,3 +11,5 @@ pub mod Grammar
 pub mod Spelling
 pub mod Literals
 pub mod Rows
+pub mod Depths
+pub mod Weights
