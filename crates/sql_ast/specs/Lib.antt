@@ -10,3 +10,5 @@ pub mod Parts
 pub mod Grammar
 pub mod Literals
 pub mod Rows
+pub mod Depths
+pub mod Weights
