@@ -12,3 +12,5 @@ pub mod Literals
 pub mod Rows
 pub mod Depths
 pub mod Weights
+pub mod Pieces
+pub mod Canon

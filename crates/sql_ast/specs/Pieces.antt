@@ -1,14 +1,16 @@
 -- The tokens of the canonical print, and how they stand beside each other.
 use Rattle.std.specs.Prelude.{ℕ, Bool, true, false, ◌&&◌, if◌then◌else◌, List, [], ◌∷◌, ◌++◌, map, codes, decimal, Option, None, Some}
-use Rattle.sql_ast.specs.declared.words.Reserved.{Reserved}
+use Rattle.sql_names.specs.declared.words.Reserved.{Reserved}
 use Rattle.sql_ast.specs.declared.words.Sign.{Sign}
 use Rattle.sql_ast.specs.declared.words.Sign.TheVariants as s
 use Rattle.sql_ast.specs.declared.words.Word.{Word}
-use Rattle.sql_ast.specs.declared.words.TheConstants.{RESERVED, WORDS, SIGNS}
+use Rattle.sql_names.specs.declared.words.TheConstants.{RESERVED}
+use Rattle.sql_ast.specs.declared.words.TheConstants.{WORDS, SIGNS}
 use Rattle.sql_ast.specs.declared.token.Lexeme.{Lexeme}
 use Rattle.sql_ast.specs.declared.token.Lexeme.TheVariants as l
 use Rattle.sql_ast.specs.Marks.{same_reserved, same_word, same_sign}
-use Rattle.sql_ast.specs.Spelling.{is_plain, quote_name, quote_text, quoted_bytes}
+use Rattle.sql_names.specs.Spelling.{is_plain, quote_name, quote_text}
+use Rattle.sql_ast.specs.Literals.{quote_bytes}
 use Rattle.sql_ast.specs.Words.{word_of}
 
 -- ---- how a token is spelled
@@ -24,7 +26,7 @@ lexeme_text (l.Reserved w) = spelled_by same_reserved (map (λ e. (e.0.now, e.1)
 lexeme_text (l.Name name word) = quote_name name
 lexeme_text (l.Integer n) = decimal n
 lexeme_text (l.Text text) = quote_text text
-lexeme_text (l.Bytes bytes) = quoted_bytes bytes
+lexeme_text (l.Bytes bytes) = quote_bytes bytes
 lexeme_text (l.Parameter name) = 64 ∷ quote_name name
 lexeme_text (l.Sign x) = spelled_by same_sign (map (λ e. (e.0.now, e.1)) SIGNS) x
 
