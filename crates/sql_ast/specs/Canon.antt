@@ -487,3 +487,7 @@ canon_pieces = fold-Query Print (List Piece) (List Piece) (List Piece) (List Pie
 -- The canonical print of a query.
 abbrev pub Canon : Query → List ℕ
 Canon query = text_of (canon_pieces query)
+
+-- the tokens of an expression alone, and its level
+unfoldable pub canon_expr : Expr → Print
+canon_expr = fold-Expr Print (List Piece) (List Piece) (List Piece) (List Piece) (List Piece) (List Piece) expr_print primary_print term_print from_print joined_print query_print select_print
