@@ -1,3 +1,4 @@
 pub mod LiteralLaws
 pub mod DatesFitLaws
 mod LiteralExamples
+mod CanonExamples

@@ -10,3 +10,7 @@ pub mod Parts
 pub mod Grammar
 pub mod Literals
 pub mod Rows
+pub mod Depths
+pub mod Weights
+pub mod Pieces
+pub mod Canon
