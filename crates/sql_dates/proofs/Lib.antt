@@ -1,3 +1,4 @@
 mod Widths
-mod ArgumentLaws
+pub mod ArgumentLaws
 pub mod FitLaws
+pub mod RowLaws
