@@ -2,3 +2,4 @@ mod Widths
 pub mod ArgumentLaws
 pub mod FitLaws
 pub mod RowLaws
+mod PartExamples
