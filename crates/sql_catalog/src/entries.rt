@@ -79,3 +79,10 @@ pub struct Entries {
     pub definitions: Items<Definition>,
     pub params: Items<ParamDef>,
 }
+
+/// What stands in FROM by its name. A view has its number among the definitions.
+#[derive(Clone, Copy, Debug, PartialEq, Eq)]
+pub enum TableOrView {
+    Table(usize),
+    View(usize),
+}
