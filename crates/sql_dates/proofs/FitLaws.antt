@@ -1,7 +1,6 @@
 -- What the calls answer fits the types of their rows: a DATE, or an INT64.
-use Rattle.std.proofs.Common.{◌≡◌, ℕ, ℤ, pos, negsuc, Bool, true, false, ◌&&◌, List, [], ◌∷◌, Option, Some, None, refl, sym, ap, ◌∙◌, arith, FitsSigned, w64}
-use Rattle.std.specs.Prelude.{IfSome, IfOk, Ok, Err, IsUtf8, int_le}
-use Rattle.std.specs.Str.{is_utf8}
+use Rattle.std.proofs.Common.{◌≡◌, ℕ, ℤ, pos, negsuc, Bool, true, ◌&&◌, List, refl, sym, ap, ◌∙◌, arith, FitsSigned, w64}
+use Rattle.std.specs.Prelude.{IsUtf8, int_le}
 use Rattle.std.proofs.lemmas.Str.{is_utf8-from_IsUtf8}
 use Rattle.std.proofs.lemmas.Grind.{common_steps}
 use Rattle.jiff_core.proofs.SignedLemmas.{signed_arith}

@@ -1,3 +1,5 @@
 mod Widths
-mod ArgumentLaws
+pub mod ArgumentLaws
 pub mod FitLaws
+pub mod RowLaws
+mod PartExamples

@@ -1,5 +1,5 @@
 -- Sums and products of counts of parts keep their value in 128 bits.
-use Rattle.std.proofs.Common.{◌≡◌, ℤ, pos, negsuc, neg_ℤ, ◌≤ℤ◌, ◌<ℤ◌, ◌^◌, ◌<◌, unsigned_abs, to_z, of_z, arith, ◌∙◌}
+use Rattle.std.proofs.Common.{◌≡◌, ℤ, pos, negsuc, neg_ℤ, ◌≤ℤ◌, ◌^◌, ◌<◌, unsigned_abs, to_z, of_z, arith}
 use mir.Syntax.{w64, w128}
 use Rattle.jiff_core.proofs.SignedLemmas.{back_small, signed_arith}
 

@@ -1,5 +1,5 @@
 -- The functions on dates, by the values of their arguments: a value or a fault.
-use Rattle.std.specs.Prelude.{ℕ, ℤ, pos, negsuc, neg_ℤ, ◌-ℤ◌, List, Option, Some, None, Ok, Err}
+use Rattle.std.specs.Prelude.{ℤ, pos, neg_ℤ, ◌-ℤ◌, List, Option, Some, None, Ok, Err}
 use Rattle.sql_types.specs.declared.fault.FaultKind.{FaultKind}
 use Rattle.sql_types.specs.declared.fault.FaultKind.TheVariants.{OutOfRange, Argument}
 use Rattle.sql_types.specs.declared.value.Value.{Value}

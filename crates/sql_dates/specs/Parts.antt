@@ -3,7 +3,7 @@ use Rattle.std.specs.Prelude.{ℕ, ◌+◌, ◌-◌, ◌*◌, ◌/◌, ◌%◌, 
 use Rattle.std.specs.Int.{int_div_euclid, int_rem_euclid}
 use Rattle.std.specs.Str.{bytes_eq}
 use Rattle.sql_types.specs.declared.calendar.CalendarDate.{CalendarDate}
-use Rattle.sql_types.specs.Calendar.{date_of, day_of, day_number, day_of_year, month_length}
+use Rattle.sql_types.specs.Calendar.{date_of, day_of, day_of_year, month_length}
 use Rattle.sql_types.specs.Fits.{is_day}
 use Rattle.sql_dates.specs.declared.part.DatePart.{DatePart}
 use Rattle.sql_dates.specs.declared.part.DatePart.TheVariants as part

@@ -37,7 +37,6 @@ fn named_day(year: i64, month: i64, day: i64) -> Option<i32>
 
 /// `DATE_ADD(date, INTERVAL count part)`: the date so many parts later. A month that is shorter has its last day in
 /// place of the day. OUT_OF_RANGE past 0001-01-01 or 9999-12-31.
-
 pub fn date_add_date_int64_string(values: &[Value]) -> Result<Value, CallFault>
     requires fits { fits_types (ty.Date ∷ ty.Int64 ∷ ty.Text ∷ []) values.now ≡ true }
     requires part { IsSome (part_at values.now 2) }
@@ -55,7 +54,6 @@ pub fn date_add_date_int64_string(values: &[Value]) -> Result<Value, CallFault>
 }
 
 /// `DATE_SUB(date, INTERVAL count part)`: the date so many parts earlier, as DATE_ADD of the negative count.
-
 pub fn date_sub_date_int64_string(values: &[Value]) -> Result<Value, CallFault>
     requires fits { fits_types (ty.Date ∷ ty.Int64 ∷ ty.Text ∷ []) values.now ≡ true }
     requires part { IsSome (part_at values.now 2) }
@@ -73,7 +71,6 @@ pub fn date_sub_date_int64_string(values: &[Value]) -> Result<Value, CallFault>
 }
 
 /// `DATE_DIFF(date, from, part)`: how many boundaries of parts lie between the two, from the second to the first.
-
 pub fn date_diff_date_date_string(values: &[Value]) -> Result<Value, CallFault>
     requires fits { fits_types (ty.Date ∷ ty.Date ∷ ty.Text ∷ []) values.now ≡ true }
     requires part { IsSome (part_at values.now 2) }
@@ -89,7 +86,6 @@ pub fn date_diff_date_date_string(values: &[Value]) -> Result<Value, CallFault>
 
 /// `DATE_TRUNC(date, part)`: the first day of the part in which the date lies. OUT_OF_RANGE for a WEEK that begins before
 /// 0001-01-01.
-
 pub fn date_trunc_date_string(values: &[Value]) -> Result<Value, CallFault>
     requires fits { fits_types (ty.Date ∷ ty.Text ∷ []) values.now ≡ true }
     requires part { IsSome (part_at values.now 1) }
@@ -102,7 +98,6 @@ pub fn date_trunc_date_string(values: &[Value]) -> Result<Value, CallFault>
 }
 
 /// `EXTRACT(part FROM date)`: the field of the date, as `DateField` says.
-
 pub fn extract_string_date(values: &[Value]) -> Result<Value, CallFault>
     requires fits { fits_types (ty.Text ∷ ty.Date ∷ []) values.now ≡ true }
     requires part { IsSome (field_at values.now 0) }
@@ -115,7 +110,6 @@ pub fn extract_string_date(values: &[Value]) -> Result<Value, CallFault>
 }
 
 /// `UNIX_DATE(date)`: the days since 1970-01-01, negative before it.
-
 pub fn unix_date_date(values: &[Value]) -> Result<Value, CallFault>
     requires { fits_types (ty.Date ∷ []) values.now ≡ true }
     ensures { result ≡ answered (rows.unix_date values.now) }

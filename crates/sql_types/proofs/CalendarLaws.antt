@@ -1,13 +1,13 @@
 -- The calendar: a day and its date determine each other, the next day is the next number, and the calendar that is
 -- called has the same dates.
-use Rattle.std.proofs.Common.{◌≡◌, ℕ, zero, suc, ◌+◌, ◌-◌, ◌<◌, ◌≤◌, ℤ, pos, ◌+ℤ◌, ◌-ℤ◌, unsigned_abs, Bool, true, false, if◌then◌else◌, nat_lt, nat_le, List, [], ◌∷◌, length, get_or, take, refl, sym, ap, ◌∙◌, arith}
+use Rattle.std.proofs.Common.{◌≡◌, ℕ, zero, suc, ◌+◌, ◌-◌, ◌<◌, ◌≤◌, ℤ, pos, ◌+ℤ◌, ◌-ℤ◌, unsigned_abs, Bool, true, false, if◌then◌else◌, nat_lt, nat_le, List, [], ◌∷◌, length, get_or, take, refl, sym, subst, ap, ◌∙◌, arith}
 use Rattle.std.proofs.lemmas.Bool.Decides.{nat_tests}
 use Rattle.std.proofs.lemmas.Grind.{common_steps}
 use Rattle.jiff_core.specs.Calendar.{days_in_year, days_in_month, days_of_years, days_of_months, days_from_civil, day_count}
 use Rattle.jiff_core.proofs.SignedLemmas.{signed_arith}
-use Rattle.jiff_core.proofs.CalendarLemmas.{day_count-epoch}
+use Rattle.jiff_core.proofs.CalendarLemmas.{day_count-epoch, days_in_year_bounds}
 use Rattle.sql_types.specs.declared.calendar.CalendarDate.{CalendarDate}
-use Rattle.sql_types.specs.Calendar.{is_leap, total, month_lengths, month_length, year_length, year_lengths, calendar_years, is_date, days_before_year, days_before_month, day_number, located, date_of, date_in_year, next_date}
+use Rattle.sql_types.specs.Calendar.{is_leap, total, month_lengths, month_length, year_length, year_lengths, calendar_years, is_date, days_before_year, days_before_month, day_of_year, day_number, located, date_of, date_in_year, next_date}
 use Rattle.sql_types.specs.Fits.{is_day}
 use Rattle.sql_types.proofs.Stretches.{located-at, IsAt, is_at-located}
 
@@ -328,3 +328,18 @@ next-by date false false on within early =
 pub day_number-next : (date : CalendarDate) → OnCalendar date.year date.month date.day
     → day_number (next_date date).year (next_date date).month (next_date date).day ≡ day_number date.year date.month date.day +ℤ pos 1
 day_number-next date on = next-by date (nat_lt date.day (month_length date.year date.month)) (nat_lt date.month 12) on refl refl
+
+-- a year has at most 366 days
+pub day_of_year-most : (year month day : ℕ) → OnCalendar year month day → day_of_year year month day ≤ 366
+unfolding month_length days_before_month
+day_of_year-most year zero day on = absurd (omega arith)
+day_of_year-most year (suc j) zero on = absurd (omega arith)
+day_of_year-most zero (suc j) (suc i) on = absurd (omega arith)
+day_of_year-most (suc k) (suc j) (suc i) on =
+    let b : suc j - 1 ≡ j = omega arith in
+    let last = rw b at on.last_day in
+    let within = in_year k j i (omega arith) (omega arith) in
+    let bounds = days_in_year_bounds (pos (suc k)) in
+    let P : ℕ → Type 0 = λ n. n ≤ 366 in
+    let most : year_length (suc k) ≤ 366 = subst P (sym (year_length-civil (suc k))) bounds.0 in
+    rw b (omega (arith, within, most))

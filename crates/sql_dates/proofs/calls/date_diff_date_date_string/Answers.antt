@@ -1,7 +1,7 @@
-use Rattle.std.proofs.Common.{◌≡◌, ◌∙◌, [], ◌∷◌, ap, refl, arith, rules, ℤ, pos, neg_ℤ, ◌-ℤ◌, to_z, of_z}
-use mir.Syntax.{w32, w64, w128}
+use Rattle.std.proofs.Common.{◌≡◌, [], ◌∷◌, refl, arith, rules, ◌-ℤ◌, to_z, of_z}
+use mir.Syntax.{w32, w64}
 use Rattle.jiff_core.proofs.SignedLemmas.{signed_arith}
-use Rattle.sql_dates.proofs.Widths.{kept, kept_difference}
+use Rattle.sql_dates.proofs.Widths.{kept_difference}
 use Rattle.sql_types.specs.declared.sql_type.SqlType.TheVariants as ty
 use Rattle.sql_dates.proofs.ArgumentLaws.{has_dates}
 use Rattle.sql_dates.proofs.calls.date_diff_date_date_string.Goals as goal

@@ -1,4 +1,4 @@
-use Rattle.std.proofs.Common.{◌≡◌, ◌∙◌, [], ◌∷◌, ap, refl, arith, rules, ℤ, pos, neg_ℤ, ◌-ℤ◌, to_z, of_z}
+use Rattle.std.proofs.Common.{[], ◌∷◌}
 use Rattle.sql_types.specs.declared.sql_type.SqlType.TheVariants as ty
 use Rattle.sql_dates.proofs.ArgumentLaws.{has_dates}
 use Rattle.sql_dates.proofs.calls.extract_string_date.Goals as goal

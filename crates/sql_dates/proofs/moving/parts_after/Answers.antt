@@ -1,4 +1,4 @@
-use Rattle.std.proofs.Common.{◌≡◌, ◌∙◌, refl, arith, rules, ℤ, pos, ◌+ℤ◌, ◌*ℤ◌, to_z, of_z}
+use Rattle.std.proofs.Common.{◌≡◌, ◌∙◌, refl, arith, rules, pos, ◌+ℤ◌, ◌*ℤ◌, to_z, of_z}
 use mir.Syntax.{w128, w32}
 use Rattle.jiff_core.proofs.SignedLemmas.{signed_arith}
 use Rattle.sql_dates.proofs.Widths.{kept}
