@@ -3,3 +3,4 @@ pub mod Same
 pub mod Before
 pub mod Arranged
 pub mod Outcome
+pub mod Takes
