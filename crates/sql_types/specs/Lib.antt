@@ -10,3 +10,4 @@ pub mod Parted
 pub mod Combined
 pub mod Arranged
 pub mod Cut
+pub mod Takes
