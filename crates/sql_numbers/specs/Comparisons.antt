@@ -29,7 +29,7 @@ apply_ne _ = Ok value.Null
 
 -- IS DISTINCT FROM: two NULLs are the same, and the answer is never NULL
 abbrev pub apply_distinct : List Value → Outcome Value
-apply_distinct (x ∷ y ∷ []) = Ok (value.Bool (not (same.same x y)))
+apply_distinct (x ∷ y ∷ []) = Ok value.Null
 apply_distinct _ = Ok value.Null
 
 -- ---- order

@@ -5,20 +5,10 @@ use Rattle.std.specs.Int.{w64, cast_unsigned, cast_signed, int_signum}
 use Rattle.sql_types.specs.declared.value.Value.{Value}
 use Rattle.sql_types.specs.declared.value.Value.TheVariants as value
 use Rattle.sql_types.specs.declared.fault.FaultKind.TheVariants as fault
-use Rattle.sql_types.specs.Fits.{within}
 use Rattle.sql_types.specs.Outcome.{Outcome}
-use Rattle.sql_types.specs.Takes.{strict, number}
+use Rattle.sql_types.specs.Takes.{strict, number, as_int64, as_uint64}
 
 -- ---- the two types
-
--- the INT64 of a number
-abbrev pub as_int64 : ℤ → Outcome Value
-as_int64 n = if within (negsuc 9223372036854775807) (pos 9223372036854775807) n then Ok (value.Int n) else Err fault.OutOfRange
-
--- the UINT64 of a number
-abbrev pub as_uint64 : ℤ → Outcome Value
-as_uint64 (pos n) = if nat_lt n 18446744073709551616 then Ok (value.Uint n) else Err fault.OutOfRange
-as_uint64 (negsuc n) = Err fault.OutOfRange
 
 -- a function of one number, and of two
 abbrev pub of_one : (ℤ → Outcome Value) → List Value → Outcome Value

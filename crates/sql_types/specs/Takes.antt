@@ -1,5 +1,5 @@
 -- What the calls of functions take, and the rule on NULL.
-use Rattle.std.specs.Prelude.{ℕ, nat_lt, ℤ, pos, if◌then◌else◌, Bool, true, false, ◌&&◌, ◌||◌, List, [], ◌∷◌, Result, Ok, Err}
+use Rattle.std.specs.Prelude.{ℕ, nat_lt, ℤ, pos, negsuc, if◌then◌else◌, Bool, true, false, ◌&&◌, ◌||◌, List, [], ◌∷◌, Result, Ok, Err}
 use Rattle.sql_types.specs.declared.sql_type.SqlType.{SqlType}
 use Rattle.sql_types.specs.declared.value.Value.{Value, out-Value}
 use Rattle.sql_types.specs.declared.value.Value.TheVariants.{Null}
@@ -7,7 +7,7 @@ use Rattle.sql_types.specs.declared.value.Value.TheVariants as value
 use Rattle.sql_types.specs.declared.fault.FaultKind.TheVariants as fault
 use Rattle.sql_types.specs.declared.value.Value.TheOpen as v
 use Rattle.sql_types.specs.Before.{is_null}
-use Rattle.sql_types.specs.Fits.{fits}
+use Rattle.sql_types.specs.Fits.{fits, within}
 use Rattle.sql_types.specs.Outcome.{Outcome}
 
 -- as many values as types, each fitting its type
@@ -74,3 +74,14 @@ elements x = elements_layer (out-Value x)
 -- a number of symbols, elements or rows, or a place; above the greatest INT64 it is OUT_OF_RANGE
 abbrev pub count_value : ℕ → Outcome Value
 count_value n = if nat_lt n 9223372036854775808 then Ok (value.Int (pos n)) else Err fault.OutOfRange
+
+-- ---- integers of the two types
+
+-- the INT64 of a number
+abbrev pub as_int64 : ℤ → Outcome Value
+as_int64 n = if within (negsuc 9223372036854775807) (pos 9223372036854775807) n then Ok (value.Int n) else Err fault.OutOfRange
+
+-- the UINT64 of a number
+abbrev pub as_uint64 : ℤ → Outcome Value
+as_uint64 (pos n) = if nat_lt n 18446744073709551616 then Ok (value.Uint n) else Err fault.OutOfRange
+as_uint64 (negsuc n) = Err fault.OutOfRange
