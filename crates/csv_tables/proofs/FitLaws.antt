@@ -10,7 +10,7 @@ use Rattle.sql_types.specs.declared.sql_type.SqlType.TheOpen as t
 use Rattle.sql_types.specs.declared.value.Value.{Value, out-Value, out-roll-Value}
 use Rattle.sql_types.specs.declared.value.Value.TheOpen as o
 use Rattle.sql_types.specs.declared.value.Value.TheVariants as v
-use Rattle.csv_tables.specs.Numerals.{int64_of, integer, only_int64}
+use Rattle.sql_coerce.specs.Numerals.{int64_of, integer, only_int64}
 use Rattle.csv_tables.specs.Cells.{cell_of, typed_cell, integer_value, text_bytes, is_null_mark}
 use Rattle.csv_tables.specs.Tables.{row_of, before_row}
 

@@ -6,7 +6,7 @@ use Rattle.sql_types.specs.declared.sql_type.SqlType.{SqlType, out-SqlType}
 use Rattle.sql_types.specs.declared.sql_type.SqlType.TheOpen as t
 use Rattle.sql_types.specs.declared.value.Value.{Value}
 use Rattle.sql_types.specs.declared.value.Value.TheVariants as v
-use Rattle.csv_tables.specs.Numerals.{int64_of}
+use Rattle.sql_coerce.specs.Numerals.{int64_of}
 
 -- the bytes of the mark of NULL
 abbrev pub backslash : ℕ

@@ -1,4 +1,3 @@
-pub mod Numerals
 pub mod Cells
 pub mod Reads
 pub mod Records

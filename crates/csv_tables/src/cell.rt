@@ -4,8 +4,8 @@ ghost use Rattle.std.specs.List.{list_all};
 ghost use Rattle.csv_tables.specs.Cells as cells;
 ghost use Rattle.csv_tables.specs.Reads.{Reads};
 
-use crate::numerals::read_int64;
 use crate::refusal::CellRefusal;
+use sql_coerce::read_int64;
 use sql_types::{SqlType, Text, Value};
 use std::alloc::Global;
 use std::str;

@@ -2,7 +2,6 @@
 #![tactic(auto)]
 
 mod cell;
-mod numerals;
 mod records;
 pub mod refusal;
 mod row;

@@ -4,7 +4,7 @@ use Rattle.std.proofs.lemmas.Bool.{leb-true}
 use Rattle.std.proofs.lemmas.List.Elements.{All-cons}
 use Rattle.std.specs.Prelude.{All, ◌&&◌, nat_le, option_and_then}
 use Rattle.serde_json.specs.Data.{Data, Items, no_items, item}
-use Rattle.sql_ast.specs.Words.{same_name}
+use Rattle.sql_names.specs.Words.{same_name}
 use Rattle.sql_types.specs.declared.sql_type.Named.{Named}
 use Rattle.sql_types.specs.declared.sql_type.SqlType.{SqlType}
 use Rattle.sql_types.specs.declared.sql_type.SqlType.TheVariants as t

@@ -7,7 +7,7 @@ use Rattle.sql_ast.specs.declared.expr.Expr.{Expr}
 use Rattle.sql_ast.specs.declared.query.Query.{Query}
 use Rattle.sql_ast.specs.declared.token.Lexeme.TheVariants as lexeme
 use Rattle.sql_ast.specs.declared.token.Token.{Token}
-use Rattle.sql_ast.specs.declared.words.Reserved.TheVariants as reserved
+use Rattle.sql_names.specs.declared.words.Reserved.TheVariants as reserved
 use Rattle.sql_ast.specs.declared.words.Sign.TheVariants as sign
 use Rattle.small_query.specs.Fronts.{Splits}
 use Rattle.small_query.specs.Forms.{Says, HasWords, IsName, IsLiteral, column_item, small_tree, NamesOf, names_one, names_more, SmallOf, small_query, SmallText}

@@ -16,7 +16,7 @@ use Rattle.sql_ast.specs.declared.refusal.Refusal.TheVariants.{Rule, OutOfMemory
 use Rattle.sql_ast.specs.declared.token.Lexeme.{Lexeme}
 use Rattle.sql_ast.specs.declared.token.Lexeme.TheVariants as lexeme
 use Rattle.sql_ast.specs.declared.token.Token.{Token}
-use Rattle.sql_ast.specs.declared.words.Reserved.TheVariants as reserved
+use Rattle.sql_names.specs.declared.words.Reserved.TheVariants as reserved
 use Rattle.sql_ast.specs.declared.words.Sign.TheVariants as sign
 use Rattle.small_query.specs.Fronts.{Splits}
 

@@ -7,9 +7,10 @@ use Rattle.std.specs.Str.Parse.{digits_value}
 use Rattle.sql_ast.specs.declared.token.Lexeme.{Lexeme}
 use Rattle.sql_ast.specs.declared.token.Lexeme.TheVariants as lexeme
 use Rattle.sql_ast.specs.declared.token.Token.{Token}
-use Rattle.sql_ast.specs.declared.words.Reserved.{Reserved}
+use Rattle.sql_names.specs.declared.words.Reserved.{Reserved}
 use Rattle.sql_ast.specs.declared.words.Sign.TheVariants as sign
-use Rattle.sql_ast.specs.Words.{reserved_of, word_of}
+use Rattle.sql_names.specs.Words.{reserved_of}
+use Rattle.sql_ast.specs.Words.{word_of}
 
 -- bytes 9 to 13 and 32 separate tokens
 abbrev pub separates : ℕ → Bool

@@ -1,7 +1,7 @@
 //! The form of a small query.
 ghost use Rattle.std.specs.Prelude.{◌≡◌, ◌↔◌, IsTrue, IfOk, IfErr};
 ghost use Rattle.sql_ast.specs.declared.token.Lexeme.TheVariants as lexeme;
-ghost use Rattle.sql_ast.specs.declared.words.Reserved.TheVariants as reserved;
+ghost use Rattle.sql_names.specs.declared.words.Reserved.TheVariants as reserved;
 ghost use Rattle.sql_ast.specs.declared.words.Sign.TheVariants as sign;
 ghost use Rattle.small_query.specs.Forms.{Says, HasWords, IsName, IsLiteral, NamesOf, SmallOf, Refused, column, column_item, table_alone, equality, small_select, select_alone, small_tree};
 

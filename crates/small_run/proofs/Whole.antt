@@ -11,7 +11,7 @@ use Rattle.sql_types.specs.Fits.{fits_row}
 use Rattle.sql_types.specs.Same.{equal}
 use Rattle.sql_types.specs.Outcome.{Outcome, Meaning, Gather, EachGives, goes_on, all_give}
 use Rattle.sql_types.proofs.Orders.{arranged_refl}
-use Rattle.sql_ast.specs.Words.{same_name}
+use Rattle.sql_names.specs.Words.{same_name}
 use Rattle.sql_ast.specs.declared.clauses.Name.{Name}
 use Rattle.sql_ast.specs.declared.clauses.Item.{Item}
 use Rattle.sql_ast.specs.declared.clauses.FilterPart.{FilterPart}

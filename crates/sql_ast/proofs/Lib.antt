@@ -1,2 +1,3 @@
-pub mod SpellingLemmas
-pub mod Written
+pub mod LiteralLaws
+pub mod DatesFitLaws
+mod LiteralExamples

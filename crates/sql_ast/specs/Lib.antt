@@ -8,6 +8,5 @@ pub mod Marks
 pub mod Trees
 pub mod Parts
 pub mod Grammar
-pub mod Spelling
 pub mod Literals
 pub mod Rows

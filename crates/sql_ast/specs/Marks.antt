@@ -1,10 +1,10 @@
 -- What the grammar sees of a token: which word, sign, name or literal it is.
 use Rattle.std.specs.Prelude.{◌≡◌, ℕ, ◌==◌, Bool, true, false, ◌&&◌, List, [], ◌∷◌, Option, Some, None}
 use denote.Enum.Bare.{sameb}
-use Rattle.sql_ast.specs.contracts.words.Reserved as reserved_contract
+use Rattle.sql_names.specs.contracts.words.Reserved as reserved_contract
 use Rattle.sql_ast.specs.contracts.words.Word as word_contract
 use Rattle.sql_ast.specs.contracts.words.Sign as sign_contract
-use Rattle.sql_ast.specs.declared.words.Reserved.{Reserved}
+use Rattle.sql_names.specs.declared.words.Reserved.{Reserved}
 use Rattle.sql_ast.specs.declared.words.Word.{Word}
 use Rattle.sql_ast.specs.declared.words.Sign.{Sign}
 use Rattle.sql_ast.specs.declared.words.Sign.TheVariants as s

@@ -3,8 +3,8 @@ use Rattle.std.specs.Prelude.{ℕ, ◌+◌, ◌-◌, max, List, [], ◌∷◌}
 use Rattle.sql_ast.specs.declared.token.Lexeme.{Lexeme}
 use Rattle.sql_ast.specs.declared.token.Lexeme.TheVariants as lexeme
 use Rattle.sql_ast.specs.declared.token.Token.{Token}
-use Rattle.sql_ast.specs.declared.words.Reserved.{Reserved}
-use Rattle.sql_ast.specs.declared.words.Reserved.TheVariants as word
+use Rattle.sql_names.specs.declared.words.Reserved.{Reserved}
+use Rattle.sql_names.specs.declared.words.Reserved.TheVariants as word
 use Rattle.sql_ast.specs.declared.words.Sign.{Sign}
 use Rattle.sql_ast.specs.declared.words.Sign.TheVariants as sign
 

@@ -1,33 +1,19 @@
 -- The text of an answer's rows.
-use Rattle.std.specs.Prelude.{ℕ, List, [], ◌∷◌, ◌++◌, map, length, codes, decimal, Option, None, Some}
+use Rattle.std.specs.Prelude.{ℕ, List, [], ◌∷◌, ◌++◌, map, length, codes, decimal}
+use Rattle.sql_names.specs.Commas.{joined}
 use Rattle.sql_types.specs.declared.sql_type.Named.{Named}
 use Rattle.sql_types.specs.declared.sql_type.SqlType.{SqlType}
 use Rattle.sql_types.specs.declared.value.Value.{Value}
-use Rattle.sql_ast.specs.Spelling.{quote_name}
-use Rattle.sql_ast.specs.Literals.{type_text, literal_text}
-
--- each piece with a comma and a space before it
-abbrev pub continued : List (List ℕ) → List ℕ
-continued [] = []
-continued (piece ∷ pieces) = (codes ", " ++ piece) ++ continued pieces
-
--- the pieces, joined by a comma and a space
-abbrev pub joined : List (List ℕ) → List ℕ
-joined [] = []
-joined (piece ∷ pieces) = piece ++ continued pieces
-
--- a column's name and a space, where it has a name, and its type
-abbrev pub column_text : Option (List ℕ) → SqlType → List ℕ
-column_text None ty = type_text ty
-column_text (Some name) ty = (quote_name name ++ codes " ") ++ type_text ty
+use Rattle.sql_types.specs.TypeText.{column_text}
+use Rattle.sql_ast.specs.Literals.{LiteralText}
 
 -- one line: the columns
 abbrev pub header_text : List (Named SqlType) → List ℕ
-header_text columns = joined (map (λ c. column_text c.name c.ty) columns) ++ 10 ∷ []
+header_text columns = joined (map column_text columns) ++ 10 ∷ []
 
 -- one line: the values of a row
 abbrev pub row_text : List Value → List ℕ
-row_text row = joined (map literal_text row) ++ 10 ∷ []
+row_text row = joined (map LiteralText row) ++ 10 ∷ []
 
 abbrev pub rows_lines : List (List Value) → List ℕ
 rows_lines [] = []

@@ -5,7 +5,7 @@ use Rattle.std.specs.List.{list_all}
 use Rattle.std.specs.Str.{byte, is_utf8}
 use Rattle.sql_ast.specs.declared.token.Lexeme.{Lexeme}
 use Rattle.sql_ast.specs.declared.token.Lexeme.TheVariants as lexeme
-use Rattle.sql_ast.specs.declared.words.Reserved.{Reserved}
+use Rattle.sql_names.specs.declared.words.Reserved.{Reserved}
 use Rattle.sql_ast.specs.declared.words.Sign.{Sign}
 use Rattle.sql_ast.specs.declared.words.Sign.TheVariants as sign
 use Rattle.sql_ast.specs.declared.pieces.LiteralPrefix.{LiteralPrefix}
@@ -19,7 +19,8 @@ use Rattle.sql_ast.specs.declared.pieces.Shape.TheVariants as s
 use Rattle.sql_ast.specs.declared.pieces.Piece.{Piece}
 use Rattle.sql_ast.specs.declared.pieces.Piece.TheVariants as piece
 use Rattle.sql_ast.specs.Classes.{is_between}
-use Rattle.sql_ast.specs.Words.{reserved_of, word_of, sign_of}
+use Rattle.sql_names.specs.Words.{reserved_of}
+use Rattle.sql_ast.specs.Words.{word_of, sign_of}
 
 -- ---- words and names
 

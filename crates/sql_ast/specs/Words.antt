@@ -1,23 +1,9 @@
--- The words of the grammar, and when two names are the same.
-use Rattle.std.specs.Prelude.{ℕ, Bool, if◌then◌else◌, List, [], ◌∷◌, map, Option, Some, None}
-use Rattle.std.specs.Str.{str_eq_ignore_ascii_case}
-use Rattle.sql_ast.specs.declared.words.Reserved.{Reserved}
+-- The words and signs of the grammar that aren't reserved words.
+use Rattle.std.specs.Prelude.{ℕ, List, map, Option}
+use Rattle.sql_names.specs.Words.{find_word}
 use Rattle.sql_ast.specs.declared.words.Word.{Word}
 use Rattle.sql_ast.specs.declared.words.Sign.{Sign}
-use Rattle.sql_ast.specs.declared.words.TheConstants.{RESERVED, WORDS, SIGNS}
-
--- two names are the same where they are equal after ASCII letters are made lower case
-abbrev pub same_name : List ℕ → List ℕ → Bool
-same_name left right = str_eq_ignore_ascii_case left right
-
--- the first entry with these letters, case aside
-abbrev pub find_word : {A : Type 0} → List (List ℕ × A) → List ℕ → Option A
-find_word [] letters = None
-find_word (entry ∷ entries) letters = if same_name entry.0 letters then Some entry.1 else find_word entries letters
-
--- the reserved word that these letters spell
-unfoldable pub reserved_of : List ℕ → Option Reserved
-reserved_of = find_word (map (λ e. (e.0.now, e.1)) RESERVED)
+use Rattle.sql_ast.specs.declared.words.TheConstants.{WORDS, SIGNS}
 
 -- the word of the grammar that these letters spell, if it isn't reserved
 unfoldable pub word_of : List ℕ → Option Word

@@ -1,66 +1,33 @@
 //! The text of an answer's rows.
-ghost use Rattle.std.specs.Prelude.{◌≡◌, ◌++◌, ◌∷◌, [], OnOk, IfOk, map, codes};
+ghost use Rattle.std.specs.Prelude.{◌≡◌, ◌++◌, ◌∷◌, [], OnOk, IfOk, map, codes, true};
+ghost use Rattle.std.specs.List.{list_all};
 ghost use Rattle.sql_ast.specs.Rows as text;
-ghost use Rattle.sql_ast.specs.Literals.{literal_text};
+ghost use Rattle.sql_ast.specs.Literals.{dates_fit};
 
-use crate::spelling::{write_literal, write_name, write_type};
+use crate::spelling::write_literals;
 use itoa::Buffer;
-use sql_types::{Bytes, Column, Items, Rows, Value, Values};
+use sql_types::{Bytes, Column, Items, Rows, Value, Values, write_columns};
 use std::alloc::{AllocError, Global};
-
-fn write_column(out: &mut Vec<u8>, column: &Column) -> Result<(), AllocError>
-    ensures { OnOk result (out.new.items ≡ out.old.items ++ text.column_text column.now.name column.now.ty) }
-{
-    if let Some(name) = &column.name {
-        write_name(out, name)?;
-        out.extend_from_slice(b" ")?;
-    }
-    write_type(out, &column.ty)
-}
-
-fn write_more_columns(out: &mut Vec<u8>, columns: &[Column]) -> Result<(), AllocError>
-    ensures { OnOk result (out.new.items ≡ out.old.items ++ text.continued (map (λ c. text.column_text c.name c.ty) columns.now)) }
-{
-    for column in columns {
-        out.extend_from_slice(b", ")?;
-        write_column(out, column)?;
-    }
-    Ok(())
-}
 
 fn write_header(out: &mut Vec<u8>, columns: &[Column]) -> Result<(), AllocError>
     ensures { OnOk result (out.new.items ≡ out.old.items ++ text.header_text columns.now) }
 {
-    if let [first, rest @ ..] = columns {
-        write_column(out, first)?;
-        write_more_columns(out, rest)?;
-    }
+    write_columns(out, columns)?;
     out.push(b'\n')?;
     Ok(())
 }
 
-fn write_more_values(out: &mut Vec<u8>, values: &[Value]) -> Result<(), AllocError>
-    ensures { OnOk result (out.new.items ≡ out.old.items ++ text.continued (map literal_text values.now)) }
-{
-    for value in values {
-        out.extend_from_slice(b", ")?;
-        write_literal(out, value)?;
-    }
-    Ok(())
-}
-
 fn write_row(out: &mut Vec<u8>, row: &[Value]) -> Result<(), AllocError>
+    requires { list_all dates_fit row.now ≡ true }
     ensures { OnOk result (out.new.items ≡ out.old.items ++ text.row_text row.now) }
 {
-    if let [first, rest @ ..] = row {
-        write_literal(out, first)?;
-        write_more_values(out, rest)?;
-    }
+    write_literals(out, row)?;
     out.push(b'\n')?;
     Ok(())
 }
 
 fn write_lines(out: &mut Vec<u8>, rows: &[Values]) -> Result<(), AllocError>
+    requires { list_all (λ row. list_all dates_fit row) rows.now ≡ true }
     ensures { OnOk result (out.new.items ≡ out.old.items ++ text.rows_lines rows.now) }
 {
     for row in rows {

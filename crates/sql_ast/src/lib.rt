@@ -3,6 +3,7 @@
 
 pub mod answer_text;
 pub mod clauses;
+pub mod date_ranges;
 pub mod expr;
 pub mod grouping;
 pub mod naming;
@@ -22,14 +23,17 @@ pub use clauses::{
     NullsPart, NullsPlace, On, PivotCall, Replacement, Sort, Turn, Turned, UnpivotColumn, When,
     WithOffset,
 };
+pub use date_ranges::dates_fit;
 pub use expr::{
     Comparison, Expr, IndexForm, IsTest, Link, Operator, Part, Prefix, Quantifier, Signed,
 };
 pub use grouping::{Cube, CubeKind, GroupItem, GroupSet, Groups};
-pub use naming::{grammar_word, reserved_word, same_name, sign_of};
+pub use naming::{grammar_word, sign_of};
 pub use pieces::{Class, Content, LiteralPrefix, Mark, Piece, Quote, Quotes, Shape};
 pub use query::{Body, Cte, FromItem, JoinWord, Joined, Primary, Query, Select, SetTerm, Term};
 pub use refusal::Refusal;
+pub use spelling::{literal_text, write_literal};
+pub use sql_names::{Reserved, quote_name, quote_text, reserved_word, same_name};
 pub use token::{Lexeme, Token};
 pub use type_spelling::{TypeField, TypeSpelling};
-pub use words::{Reserved, Sign, Word};
+pub use words::{Sign, Word};

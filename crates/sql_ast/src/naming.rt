@@ -1,43 +1,10 @@
-//! When names are the same, and which word of the grammar a name spells.
+//! Which word, operator or mark of the grammar bytes spell.
 ghost use Rattle.std.specs.Prelude.{◌≡◌, map};
 ghost use Rattle.sql_ast.specs.Words as words;
+ghost use Rattle.sql_names.specs.Words as names;
 
-use crate::words::{RESERVED, Reserved, SIGNS, Sign, WORDS, Word};
-use sql_types::Text;
-
-/// Whether two names are the same: equal after ASCII letters are made lower case.
-pub fn same_name(left: &Text, right: &Text) -> bool
-    ensures { result ≡ words.same_name left.now right.now }
-{
-    same_letters(left.as_bytes(), right.as_bytes())
-}
-
-/// Whether two spellings are the same but for the case of ASCII letters.
-pub fn same_letters(left: &[u8], right: &[u8]) -> bool
-    ensures { result ≡ words.same_name left.now right.now }
-{
-    left.eq_ignore_ascii_case(right)
-}
-
-/// The reserved word that these letters spell, in any case.
-#[tactic(auto, unfolding(crate::specs::Words::reserved_of))]
-pub fn reserved_word(letters: &[u8]) -> Option<Reserved>
-    ensures { result ≡ words.reserved_of letters.now }
-{
-    find_reserved(&RESERVED, letters)
-}
-
-fn find_reserved(mut table: &[(&[u8], Reserved)], letters: &[u8]) -> Option<Reserved>
-    ensures { result ≡ words.find_word (map (λ e. (e.0.now, e.1)) table.entry.now) letters.now }
-{
-    'entries: while let [entry, rest @ ..] = table {
-        if same_letters(entry.0, letters) {
-            return Some(entry.1);
-        }
-        table = rest;
-    }
-    None
-}
+use crate::words::{SIGNS, Sign, WORDS, Word};
+pub use sql_names::naming::{reserved_word, same_letters, same_name};
 
 /// The word that the grammar reads at its place and that these letters spell, in any case.
 #[tactic(auto, unfolding(crate::specs::Words::word_of))]
@@ -48,7 +15,7 @@ pub fn grammar_word(letters: &[u8]) -> Option<Word>
 }
 
 fn find_grammar_word(mut table: &[(&[u8], Word)], letters: &[u8]) -> Option<Word>
-    ensures { result ≡ words.find_word (map (λ e. (e.0.now, e.1)) table.entry.now) letters.now }
+    ensures { result ≡ names.find_word (map (λ e. (e.0.now, e.1)) table.entry.now) letters.now }
 {
     'entries: while let [entry, rest @ ..] = table {
         if same_letters(entry.0, letters) {
@@ -68,7 +35,7 @@ pub fn sign_of(bytes: &[u8]) -> Option<Sign>
 }
 
 fn find_sign(mut table: &[(&[u8], Sign)], bytes: &[u8]) -> Option<Sign>
-    ensures { result ≡ words.find_word (map (λ e. (e.0.now, e.1)) table.entry.now) bytes.now }
+    ensures { result ≡ names.find_word (map (λ e. (e.0.now, e.1)) table.entry.now) bytes.now }
 {
     'entries: while let [entry, rest @ ..] = table {
         if same_letters(entry.0, bytes) {

@@ -1,141 +1,132 @@
-//! How names, texts, types and literals are spelled in what the program prints.
-ghost use Rattle.std.specs.Prelude.{◌≡◌, ◌++◌, ◌<◌, ◌∷◌, [], OnOk};
+//! How values are spelled as literals.
+ghost use Rattle.std.specs.Prelude.{◌≡◌, ◌++◌, IfOk, OnOk, decimal, map, true};
+ghost use Rattle.std.specs.Fmt.{signed_decimal};
 ghost use Rattle.std.specs.List.{list_all};
-ghost use Rattle.sql_ast.specs.Spelling as spell;
+ghost use Rattle.sql_names.specs.Commas.{joined};
+ghost use Rattle.sql_types.specs.Fits.{is_day};
 ghost use Rattle.sql_ast.specs.Literals as literals;
 
-use crate::naming::reserved_word;
 use itoa::Buffer;
-use sql_types::{SqlType, Text, Value};
-use std::alloc::AllocError;
+use sql_names::spelling::hex_digit;
+pub use sql_names::spelling::{
+    is_plain_name, quote_name, quote_text, write_name, write_separator, write_text,
+};
+use sql_types::{Bytes, Items, Value, write_date};
+use std::alloc::{AllocError, Global};
 
-fn hex_digit(number: u8) -> u8
-    requires { number < 16 }
-    ensures { result ≡ spell.hex_digit number }
+/// The literal that spells a value. Each DATE in it lies in DATE's range.
+pub fn literal_text(alloc: Global, value: &Value) -> Result<Bytes, AllocError>
+    requires { literals.dates_fit value.now ≡ true }
+    ensures { IfOk result (λ text. text ≡ literals.LiteralText value.now) }
 {
-    if number < 10 {
-        b'0' + number
-    } else {
-        b'a' - 10 + number
-    }
+    let mut out = Vec::new(alloc);
+    write_literal(&mut out, value)?;
+    Ok(Items::from_vec(out))
 }
 
-/// Writes a byte that stands between two marks.
-#[tactic(auto, unfolding(crate::specs::Spelling::escaped))]
-fn write_escaped(out: &mut Vec<u8>, mark: u8, byte: u8) -> Result<(), AllocError>
-    ensures { OnOk result (out.new.items ≡ out.old.items ++ spell.escaped mark byte) }
-{
-    if byte == b'\\' || byte == mark {
-        return out.extend_from_slice(&[b'\\', byte]);
-    }
-    match byte {
-        b'\n' => out.extend_from_slice(b"\\n"),
-        b'\r' => out.extend_from_slice(b"\\r"),
-        b'\t' => out.extend_from_slice(b"\\t"),
-        0..=31 | 127 => out.extend_from_slice(&[
-            b'\\',
-            b'x',
-            hex_digit(byte / 16),
-            hex_digit(byte % 16),
-        ]),
-        _ => out.extend_from_slice(&[byte]),
-    }
-}
-
-fn write_escapes(out: &mut Vec<u8>, mark: u8, text: &[u8]) -> Result<(), AllocError>
-    ensures { OnOk result (out.new.items ≡ out.old.items ++ spell.escapes mark text.now) }
-{
-    for byte in text {
-        write_escaped(out, mark, *byte)?;
-    }
-    Ok(())
-}
-
-/// Writes a text between two marks.
-fn write_quoted(out: &mut Vec<u8>, mark: u8, text: &[u8]) -> Result<(), AllocError>
-    ensures { OnOk result (out.new.items ≡ out.old.items ++ spell.quoted mark text.now) }
-{
-    out.push(mark)?;
-    write_escapes(out, mark, text)?;
-    out.push(mark)?;
-    Ok(())
-}
-
-/// Writes a STRING literal.
-pub fn write_text(out: &mut Vec<u8>, text: &Text) -> Result<(), AllocError>
-    ensures { OnOk result (out.new.items ≡ out.old.items ++ spell.quote_text text.now) }
-{
-    write_quoted(out, b'"', text.as_bytes())
-}
-
-fn is_letter(byte: u8) -> bool
-    ensures { result ≡ spell.is_letter byte }
-{
-    byte.is_ascii_uppercase() || byte.is_ascii_lowercase() || byte == b'_'
-}
-
-fn is_inner(byte: u8) -> bool
-    ensures { result ≡ spell.is_inner byte }
-{
-    is_letter(byte) || byte.is_ascii_digit()
-}
-
-fn is_identifier(name: &[u8]) -> bool
-    ensures { result ≡ spell.is_identifier name.now }
-{
-    match name {
-        [] => false,
-        [first, rest @ ..] => is_letter(*first) && all_inner(rest),
-    }
-}
-
-fn all_inner(bytes: &[u8]) -> bool
-    ensures { result ≡ list_all spell.is_inner bytes.now }
-{
-    bytes.iter().all(|byte| is_inner(*byte))
-}
-
-/// Whether a name is printed as it is: it is an identifier that isn't reserved.
-#[tactic(auto, unfolding(crate::specs::Spelling::is_plain))]
-pub fn is_plain_name(name: &[u8]) -> bool
-    ensures { result ≡ spell.is_plain name.now }
-{
-    is_identifier(name) && reserved_word(name).is_none()
-}
-
-/// Writes a name, in backquotes where it isn't plain.
-pub fn write_name(out: &mut Vec<u8>, name: &Text) -> Result<(), AllocError>
-    ensures { OnOk result (out.new.items ≡ out.old.items ++ spell.quote_name name.now) }
-{
-    if is_plain_name(name.as_bytes()) {
-        out.extend_from_slice(name.as_bytes())
-    } else {
-        write_quoted(out, b'`', name.as_bytes())
-    }
-}
-
-/// Writes a type that a table may have so far, INT64 or STRING, and nothing for the others.
-pub fn write_type(out: &mut Vec<u8>, ty: &SqlType) -> Result<(), AllocError>
-    ensures { OnOk result (out.new.items ≡ out.old.items ++ literals.type_text ty.now) }
-{
-    match ty {
-        SqlType::Int64 => out.extend_from_slice(b"INT64"),
-        SqlType::Text => out.extend_from_slice(b"STRING"),
-        _ => Ok(()),
-    }
-}
-
-/// Writes a value that a table may have so far, NULL, an integer or a text, as a literal, and nothing for the others.
+/// Writes the literal that spells a value. Each DATE in it lies in DATE's range.
+#[cycle(literals)]
+#[tactic(auto, using(crate::proofs::LiteralLaws::day_dates), unfolding(crate::specs::Literals::LiteralText))]
 pub fn write_literal(out: &mut Vec<u8>, value: &Value) -> Result<(), AllocError>
-    ensures { OnOk result (out.new.items ≡ out.old.items ++ literals.literal_text value.now) }
+    requires { literals.dates_fit value.now ≡ true }
+    ensures { OnOk result (out.new.items ≡ out.old.items ++ literals.LiteralText value.now) }
 {
     match value {
         Value::Null => out.extend_from_slice(b"NULL"),
-        Value::Int(number) => {
-            let mut buffer = Buffer::new();
-            out.extend_from_slice(buffer.format(*number).as_bytes())
-        }
+        Value::Bool(truth) => write_truth(out, *truth),
+        Value::Int(number) => write_signed(out, *number),
+        Value::Uint(number) => write_unsigned(out, *number),
         Value::Text(text) => write_text(out, text),
-        _ => Ok(()),
+        Value::Bytes(bytes) => write_bytes(out, bytes.as_slice()),
+        Value::Date(day) => write_quoted_date(out, *day),
+        Value::Array(elements) => {
+            out.push(b'[')?;
+            write_literals(out, elements.as_slice())?;
+            out.push(b']')?;
+            Ok(())
+        }
+        Value::Struct(fields) => {
+            out.extend_from_slice(b"STRUCT(")?;
+            write_literals(out, fields.as_slice())?;
+            out.push(b')')?;
+            Ok(())
+        }
+    }
+}
+
+/// Writes the literals of values, joined by a comma and a space.
+#[cycle(literals)]
+pub fn write_literals(out: &mut Vec<u8>, values: &[Value]) -> Result<(), AllocError>
+    requires { list_all literals.dates_fit values.now ≡ true }
+    ensures { OnOk result (out.new.items ≡ out.old.items ++ joined (map literals.LiteralText values.now)) }
+{
+    for (place, value) in values.iter().enumerate() {
+        write_separator(out, place)?;
+        write_literal(out, value)?;
+    }
+    Ok(())
+}
+
+fn write_truth(out: &mut Vec<u8>, truth: bool) -> Result<(), AllocError>
+    ensures { OnOk result (out.new.items ≡ out.old.items ++ literals.truth_text truth) }
+{
+    if truth {
+        out.extend_from_slice(b"TRUE")
+    } else {
+        out.extend_from_slice(b"FALSE")
+    }
+}
+
+fn write_signed(out: &mut Vec<u8>, number: i64) -> Result<(), AllocError>
+    ensures { OnOk result (out.new.items ≡ out.old.items ++ signed_decimal number) }
+{
+    let mut buffer = Buffer::new();
+    out.extend_from_slice(buffer.format(number).as_bytes())
+}
+
+fn write_unsigned(out: &mut Vec<u8>, number: u64) -> Result<(), AllocError>
+    ensures { OnOk result (out.new.items ≡ out.old.items ++ decimal number) }
+{
+    let mut buffer = Buffer::new();
+    out.extend_from_slice(buffer.format(number).as_bytes())
+}
+
+/// Writes a DATE literal.
+fn write_quoted_date(out: &mut Vec<u8>, day: i32) -> Result<(), AllocError>
+    requires { is_day day ≡ true }
+    ensures { OnOk result (out.new.items ≡ out.old.items ++ literals.quote_date day) }
+{
+    out.extend_from_slice(b"DATE \"")?;
+    write_date(out, day)?;
+    out.extend_from_slice(b"\"")
+}
+
+/// Writes a BYTES literal.
+fn write_bytes(out: &mut Vec<u8>, bytes: &[u8]) -> Result<(), AllocError>
+    ensures { OnOk result (out.new.items ≡ out.old.items ++ literals.quote_bytes bytes.now) }
+{
+    out.extend_from_slice(b"b\"")?;
+    write_each_byte(out, bytes)?;
+    out.push(b'"')?;
+    Ok(())
+}
+
+fn write_each_byte(out: &mut Vec<u8>, bytes: &[u8]) -> Result<(), AllocError>
+    ensures { OnOk result (out.new.items ≡ out.old.items ++ literals.bytes_text bytes.now) }
+{
+    for byte in bytes {
+        write_byte(out, *byte)?;
+    }
+    Ok(())
+}
+
+#[tactic(auto, unfolding(crate::specs::Literals::byte_text))]
+fn write_byte(out: &mut Vec<u8>, byte: u8) -> Result<(), AllocError>
+    ensures { OnOk result (out.new.items ≡ out.old.items ++ literals.byte_text byte) }
+{
+    match byte {
+        b'\\' | b'"' => out.extend_from_slice(&[b'\\', byte]),
+        b' '..=b'~' => out.extend_from_slice(&[byte]),
+        _ => out.extend_from_slice(&[b'\\', b'x', hex_digit(byte / 16), hex_digit(byte % 16)]),
     }
 }

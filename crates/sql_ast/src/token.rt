@@ -1,5 +1,6 @@
 //! The tokens of a text.
-use crate::words::{Reserved, Sign, Word};
+use crate::words::{Sign, Word};
+use sql_names::Reserved;
 use sql_types::{Bytes, Text};
 
 /// What a token says.

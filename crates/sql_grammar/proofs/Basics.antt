@@ -16,10 +16,10 @@ use Rattle.sql_ast.specs.declared.query.Query.{Query}
 use Rattle.sql_ast.specs.declared.token.Token.{Token}
 use Rattle.sql_ast.specs.declared.type_spelling.TypeField.{TypeField}
 use Rattle.sql_ast.specs.declared.type_spelling.TypeSpelling.{TypeSpelling}
-use Rattle.sql_ast.specs.declared.words.Reserved.{Reserved}
+use Rattle.sql_names.specs.declared.words.Reserved.{Reserved}
 use Rattle.sql_ast.specs.declared.clauses.Arg.TheVariants as arg_kind
 use Rattle.sql_ast.specs.declared.expr.Expr.TheVariants as e
-use Rattle.sql_ast.specs.declared.words.Reserved.TheVariants as r
+use Rattle.sql_names.specs.declared.words.Reserved.TheVariants as r
 use Rattle.sql_ast.specs.declared.words.Sign.TheVariants as s
 use Rattle.sql_ast.specs.declared.words.Word.TheVariants as w
 use Rattle.sql_ast.specs.Marks.{Tokens, Is, reserved, sign, word, named}
@@ -30,7 +30,7 @@ use Rattle.sql_grammar.specs.Ways.{Ended}
 use Rattle.sql_grammar.specs.Classes.{class_of, arguments_lexeme, ArgumentsStart, by_star, by_nothing, by_arg}
 use Rattle.sql_grammar.specs.Exprs.{tells, single_name, grouped_exprs, grouped, starred, after, bracketed_query, call_body, call_from, cast_or_call, safe_cast_by, safe_cast, called, when, otherwise, subject, case, cast, extract, grouping, exists, array_from, array, member, comma_member, struct, bound, with_after, with_item, with_end, with_body, with_expr, Held, Below, held_query, held_exprs}
 use Rattle.sql_grammar.proofs.Ways.{FoundTo, exact_until}
-use Rattle.sql_grammar.proofs.Marks.{the_reserved, the_sign, some_name, is_example, tok, also, opt_also, tok_opens, AfterOf, after_of, after_solid, after_exact, after_opens}
+use Rattle.sql_grammar.proofs.Marks.{the_reserved, the_sign, some_name, is_example, tok, also, opt_also, tok_opens, Taker, taker, AfterOf, after_of, after_solid, after_exact, after_opens}
 use Rattle.sql_grammar.proofs.Words.{ClosedOf, whole_type_exact, typed_fields_exact, closed_fields}
 use Rattle.sql_grammar.proofs.Solid.{no_expr, some_expr}
 use Rattle.sql_grammar.proofs.Calls.{Under, Bracketed, Placed, Closed, members_at, whens_at, when_solid, bracketed_exact, bracketed_query_exact, list_behind, argument_exact, arguments_from_exact, argument_hungry, call_tail_exact, call_body_exact, cast_end_exact, cast_end_opens, bracketed_is, placed_is, closed_is}
@@ -223,41 +223,41 @@ module _ (n m : ℕ) (up : n ≤ m) (b b' : Below) (x : Under n b b') where
   unfolding subject
   subject_exact = either (reserved r.When) (λ t h. hungry (hungry_bind x.inner _ (hungry_solid x.inner no_expr))) (done subject_none) (last Some x.inner (λ a u l. subject_is l))
 
-  pub case_exact : Exact (suc n) BasicOf (case n b) (case m b')
+  pub case_taker : Taker (suc n) (reserved r.Case) BasicOf (case n b) (case m b')
   unfolding case
-  case_exact = tok (the_reserved r.Case) (λ t it. bind subject_exact (λ a u la. bind (less when_exact) (λ y v ly.
+  case_taker = taker (the_reserved r.Case) (λ t it. bind subject_exact (λ a u la. bind (less when_exact) (λ y v ly.
       bind (exact_many WhenOf WhensOf (reserved r.When) (when n b) (when m b') whens_none whens_at when_solid when_opens n m n up (omega arith) (less when_exact) (y ∷ [])) (λ ys z f.
       bind (less otherwise_exact) (λ o q lo. also (the_reserved r.End) (λ d id. done (case_found t it a u la y v ly ys z f o q lo d id)))))))
 
-  pub cast_exact : Exact (suc n) BasicOf (cast n b) (cast m b')
+  pub cast_taker : Taker (suc n) (reserved r.Cast) BasicOf (cast n b) (cast m b')
   unfolding cast
-  cast_exact = tok (the_reserved r.Cast) (λ t it. also (the_sign s.OpenRound) (λ o io. bind x.inner (λ a u l. less (cast_end_exact n m up b b' x _ false t.start a (λ y c z v iy lz ic. basic_cast it io l iy lz ic)))))
+  cast_taker = taker (the_reserved r.Cast) (λ t it. also (the_sign s.OpenRound) (λ o io. bind x.inner (λ a u l. less (cast_end_exact n m up b b' x _ false t.start a (λ y c z v iy lz ic. basic_cast it io l iy lz ic)))))
 
-  pub extract_exact : Exact (suc n) BasicOf (extract n b) (extract m b')
+  pub extract_taker : Taker (suc n) (reserved r.Extract) BasicOf (extract n b) (extract m b')
   unfolding extract
-  extract_exact = tok (the_reserved r.Extract) (λ t it. also (the_sign s.OpenRound) (λ o io. also some_name (λ z iz. also (the_reserved r.From) (λ y iy. bind x.inner (λ a u l. also (the_sign s.CloseRound) (λ c ic. done (basic_extract it io iz iy l ic)))))))
+  extract_taker = taker (the_reserved r.Extract) (λ t it. also (the_sign s.OpenRound) (λ o io. also some_name (λ z iz. also (the_reserved r.From) (λ y iy. bind x.inner (λ a u l. also (the_sign s.CloseRound) (λ c ic. done (basic_extract it io iz iy l ic)))))))
 
   pub grouping_from : (t : Token) → Is (reserved r.Grouping) t → (a : Expr) (u : Tokens) → Bracketed ExprOf a u → BasicOf (e.Grouping a t.start) (t ∷ u)
   grouping_from t it _ _ (bracketed_is io l ic) = basic_grouping it io l ic
 
-  pub grouping_exact : Exact (suc n) BasicOf (grouping n b) (grouping m b')
+  pub grouping_taker : Taker (suc n) (reserved r.Grouping) BasicOf (grouping n b) (grouping m b')
   unfolding grouping
-  grouping_exact = tok (the_reserved r.Grouping) (λ t it. last (λ a. e.Grouping a t.start) (less (bracketed_exact n m up b b' x)) (grouping_from t it))
+  grouping_taker = taker (the_reserved r.Grouping) (λ t it. last (λ a. e.Grouping a t.start) (less (bracketed_exact n m up b b' x)) (grouping_from t it))
 
   pub exists_from : (t : Token) → Is (reserved r.Exists) t → (q : Query × ℕ) (u : Tokens) → Placed QueryOf q u → BasicOf (e.Exists q.0 t.start) (t ∷ u)
   exists_from t it _ _ (placed_is io l ic) = basic_exists it io l ic
 
-  pub exists_exact : Exact (suc n) BasicOf (exists n b) (exists m b')
+  pub exists_taker : Taker (suc n) (reserved r.Exists) BasicOf (exists n b) (exists m b')
   unfolding exists
-  exists_exact = tok (the_reserved r.Exists) (λ t it. last (λ (q : Query × ℕ). e.Exists q.0 t.start) (less (bracketed_query_exact n m up b b' x)) (exists_from t it))
+  exists_taker = taker (the_reserved r.Exists) (λ t it. last (λ (q : Query × ℕ). e.Exists q.0 t.start) (less (bracketed_query_exact n m up b b' x)) (exists_from t it))
 
   pub items_from_closed : (d : Token) → Is (sign s.OpenSquare) d → (xs : List Expr) (u : Tokens) → Closed s.CloseSquare ListOf xs u → ArrayItemsOf xs d (d ∷ u)
   items_from_closed d id _ _ (closed_is l ic) = array_items id l ic
 
-  pub array_from_exact : (M : Language Token Expr) (element : Option TypeSpelling) (from : Option ℕ) → ((d : Token) (xs : List Expr) (u : Tokens) → ArrayItemsOf xs d u → M (e.Array element xs d.start (elim from [ None ↦ d.start | Some p ↦ p ])) u)
-      → Exact (suc n) M (array_from n b element from) (array_from m b' element from)
+  pub array_from_taker : (M : Language Token Expr) (element : Option TypeSpelling) (from : Option ℕ) → ((d : Token) (xs : List Expr) (u : Tokens) → ArrayItemsOf xs d u → M (e.Array element xs d.start (elim from [ None ↦ d.start | Some p ↦ p ])) u)
+      → Taker (suc n) (sign s.OpenSquare) M (array_from n b element from) (array_from m b' element from)
   unfolding array_from
-  array_from_exact M element from h = tok (the_sign s.OpenSquare) (λ d id. last (λ xs. e.Array element xs d.start (elim from [ None ↦ d.start | Some p ↦ p ]))
+  array_from_taker M element from h = taker (the_sign s.OpenSquare) (λ d id. last (λ xs. e.Array element xs d.start (elim from [ None ↦ d.start | Some p ↦ p ]))
       (opt_also {M = λ xs v. ArrayItemsOf xs d (d ∷ v)} (the_sign s.CloseSquare) (λ c ic. done (array_empty id ic)) (bind x.inner (λ a u l. into (list_behind n m up b b' x s.CloseSquare a u l) (λ xs v z. items_from_closed d id xs (u ++ v) z))))
       (λ xs v z. h d xs (d ∷ v) z))
 
@@ -268,11 +268,11 @@ module _ (n m : ℕ) (up : n ≤ m) (b b' : Below) (x : Under n b b') where
   unfolding bracketed_query
   bracket_query_opens f t h = opens_bind (tok_opens h (λ o io. bind x.query (λ a u l. also (the_sign s.CloseRound) (λ c ic. done tt)))) (bracketed_query_exact n m up b b' x) (λ q u l. done {n = 0} tt)
 
-  pub array_exact : Exact (suc n) BasicOf (array n b) (array m b')
+  pub array_taker : Taker (suc n) (reserved r.Array) BasicOf (array n b) (array m b')
   unfolding array
-  array_exact = tok (the_reserved r.Array) (λ t it. either (sign s.OpenRound) (λ z h. opens (bracket_query_opens _ z h)) (last (λ (q : Query × ℕ). e.ArrayQuery q.0 q.1 t.start) (less (bracketed_query_exact n m up b b' x)) (array_query_from t it))
-      (opt_also (the_sign s.Less) (λ o io. bind (less (whole_type_exact n m up)) (λ y v ly. also (the_sign s.Greater) (λ c ic. less (array_from_exact _ (Some y) (Some t.start) (λ d xs u z. basic_array_typed it io ly ic z)))))
-      (less (array_from_exact _ None (Some t.start) (λ d xs u z. basic_array_word it z)))))
+  array_taker = taker (the_reserved r.Array) (λ t it. either (sign s.OpenRound) (λ z h. opens (bracket_query_opens _ z h)) (last (λ (q : Query × ℕ). e.ArrayQuery q.0 q.1 t.start) (less (bracketed_query_exact n m up b b' x)) (array_query_from t it))
+      (opt_also (the_sign s.Less) (λ o io. bind (less (whole_type_exact n m up)) (λ y v ly. also (the_sign s.Greater) (λ c ic. less (array_from_taker _ (Some y) (Some t.start) (λ d xs u z. basic_array_typed it io ly ic z)).exact)))
+      (less (array_from_taker _ None (Some t.start) (λ d xs u z. basic_array_word it z)).exact)))
 
   pub member_exact : Exact n MemberOf (member n b) (member m b')
   unfolding member
@@ -286,9 +286,9 @@ module _ (n m : ℕ) (up : n ≤ m) (b b' : Below) (x : Under n b b') where
   unfolding comma_member
   comma_member_opens t h = after_opens (the_sign s.Comma) member_exact t h
 
-  pub struct_exact : Exact (suc n) BasicOf (struct n b) (struct m b')
+  pub struct_taker : Taker (suc n) (reserved r.Struct) BasicOf (struct n b) (struct m b')
   unfolding struct
-  struct_exact = tok (the_reserved r.Struct) (λ t it. opt_also (the_sign s.Less)
+  struct_taker = taker (the_reserved r.Struct) (λ t it. opt_also (the_sign s.Less)
       (λ k ik. bind (less (typed_fields_exact n m up)) (λ fs u lf. also (the_sign s.OpenRound) (λ o io. bind x.inner (λ a v l. last (λ xs. e.TypedStruct fs xs o.start t.start) (list_behind n m up b b' x s.CloseRound a v l) (λ xs w z. typed_from t k o it ik io fs u lf xs (v ++ w) z)))))
       (also (the_sign s.OpenRound) (λ o io. bind member_exact (λ a u l.
       bind (exact_many (AfterOf (sign s.Comma) MemberOf) MembersOf (sign s.Comma) (comma_member n b) (comma_member m b') members_none members_at (after_solid (sign s.Comma) MemberOf) comma_member_opens n m n up (omega arith) (less comma_member_exact) (a ∷ []))
@@ -346,6 +346,6 @@ module _ (n m : ℕ) (up : n ≤ m) (b b' : Below) (x : Under n b b') where
       bind (exact_until WithTo WithsTo (sign s.Comma) (with_item n b) (with_item m b') (withs_none bindings_none) withs_more withs_end with_to_solid with_item_opens n m n up (omega arith) (less with_item_exact) (d ∷ []))
       (λ y v f. with_end_exact t o it io d (z ∷ u) ld y v f))))
 
-  pub with_expr_exact : Exact (suc n) BasicOf (with_expr n b) (with_expr m b')
+  pub with_expr_taker : Taker (suc n) (reserved r.With) BasicOf (with_expr n b) (with_expr m b')
   unfolding with_expr
-  with_expr_exact = tok (the_reserved r.With) (λ t it. less (with_body_exact t it))
+  with_expr_taker = taker (the_reserved r.With) (λ t it. less (with_body_exact t it))

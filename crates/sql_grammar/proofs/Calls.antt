@@ -19,7 +19,7 @@ use Rattle.sql_ast.specs.declared.words.Sign.{Sign}
 use Rattle.sql_ast.specs.declared.clauses.Arg.TheVariants as arg_kind
 use Rattle.sql_ast.specs.declared.clauses.Function.TheVariants as function_kind
 use Rattle.sql_ast.specs.declared.expr.Expr.TheVariants as e
-use Rattle.sql_ast.specs.declared.words.Reserved.TheVariants as r
+use Rattle.sql_names.specs.declared.words.Reserved.TheVariants as r
 use Rattle.sql_ast.specs.declared.words.Sign.TheVariants as s
 use Rattle.sql_ast.specs.Marks.{Tokens, Is, reserved, sign, named, start_of}
 use Rattle.sql_ast.specs.Trees.{name_at, function_of}
@@ -31,6 +31,7 @@ use Rattle.sql_grammar.specs.Exprs.{tells, two_named, variables_of, after, brack
 use Rattle.sql_grammar.proofs.Ways.{start_front, exact_starting}
 use Rattle.sql_grammar.proofs.Marks.{the_reserved, the_sign, some_name, a_function, tok, also, opt, opt_also, tok_opens, says, AfterOf, after_of, after_solid, after_exact, after_opens, not_nil}
 use Rattle.sql_grammar.proofs.Words.{distinct_exact, direction_exact, nulls_place_exact, nulls_part_exact, call_limit_exact, whole_type_exact}
+use Rattle.sql_grammar.proofs.Starts.{prefixes_expr}
 use Rattle.sql_grammar.proofs.Solid.{solid_front, solid_expr, some_expr}
 use Rattle.std.proofs.lemmas.Bool.{and_parts}
 
@@ -41,6 +42,8 @@ pub record Under (n : ℕ) (b b' : Below) : Type 0 where
   pub with_more : (t : Token) → Is (reserved r.With) t → Exact n (λ q v. QueryOf q (t ∷ v)) (b.more (with_read t)) (b'.more (with_read t))
   pub term_more : (a : Term) (p : ℕ) (u : Tokens) → TermOf a u → p ≡ start_of u → Exact n (λ q v. QueryOf q (u ++ v)) (b.more (term_read a p)) (b'.more (term_read a p))
   pub rest : (p : ℕ) (a : Expr) (u : Tokens) → BasicOf a u → p ≡ start_of u → Exact n (λ c v. ExprOf c (u ++ v)) (b.rest p a) (b'.rest p a)
+  -- that of expressions takes a prefix and NOT
+  pub prefixed : (t : Token) → prefixes_expr t ≡ true → Opens t b'.inner
 
 -- ---- parts in brackets
 

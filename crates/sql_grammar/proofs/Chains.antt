@@ -12,7 +12,7 @@ use Rattle.sql_ast.specs.declared.token.Token.{Token}
 use Rattle.sql_ast.specs.declared.expr.Expr.TheVariants as e
 use Rattle.sql_ast.specs.declared.expr.Operator.TheVariants as op
 use Rattle.sql_ast.specs.declared.expr.Signed.TheVariants as signed_kind
-use Rattle.sql_ast.specs.declared.words.Reserved.TheVariants as r
+use Rattle.sql_names.specs.declared.words.Reserved.TheVariants as r
 use Rattle.sql_ast.specs.declared.words.Sign.TheVariants as s
 use Rattle.sql_ast.specs.Marks.{Tokens, Is, reserved, sign, closes_shift}
 use Rattle.sql_ast.specs.Trees.{prefix_of, product_of, sum_of, link, chain, prefixes}

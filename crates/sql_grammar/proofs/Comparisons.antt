@@ -13,7 +13,7 @@ use Rattle.sql_ast.specs.declared.expr.IsTest.TheVariants as is_test_kind
 use Rattle.sql_ast.specs.declared.expr.Operator.TheVariants as op
 use Rattle.sql_ast.specs.declared.expr.Quantifier.TheVariants as quantifier_kind
 use Rattle.sql_ast.specs.declared.token.Lexeme.TheVariants as l
-use Rattle.sql_ast.specs.declared.words.Reserved.TheVariants as r
+use Rattle.sql_names.specs.declared.words.Reserved.TheVariants as r
 use Rattle.sql_ast.specs.declared.words.Sign.TheVariants as s
 use Rattle.sql_ast.specs.Marks.{Tokens, Is, Says, reserved, sign, start_of, same_reserved, same_sign, reserved_lexeme, sign_lexeme}
 use Rattle.sql_ast.specs.Trees.{comparison_lexeme, comparison_of, quantifier_of, test_of, nots, prefixes}

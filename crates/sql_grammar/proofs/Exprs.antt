@@ -16,7 +16,7 @@ use Rattle.sql_ast.specs.declared.expr.Expr.TheVariants as e
 use Rattle.sql_ast.specs.declared.expr.IndexForm.TheVariants as index_form_kind
 use Rattle.sql_ast.specs.declared.expr.Part.TheVariants as part_kind
 use Rattle.sql_ast.specs.declared.token.Lexeme.TheVariants as l
-use Rattle.sql_ast.specs.declared.words.Reserved.TheVariants as r
+use Rattle.sql_names.specs.declared.words.Reserved.TheVariants as r
 use Rattle.sql_ast.specs.declared.words.Sign.TheVariants as s
 use Rattle.sql_ast.specs.declared.words.Word.TheVariants as w
 use Rattle.sql_ast.specs.Marks.{Tokens, Is, reserved, sign, word, named, spelled, content, start_of, same_reserved, same_word, reserved_lexeme, word_lexeme, name_lexeme}
@@ -24,14 +24,15 @@ use Rattle.sql_ast.specs.Trees.{function_lexeme, function_of, form_of, path, is_
 use Rattle.sql_ast.specs.Grammar.{BasicOf, CommasOf, ExprOf, PartsOf, PostfixOf, QueryOf, basic_array, basic_bytes, basic_call, basic_date, basic_false, basic_integer, basic_name, basic_null, basic_parameter, basic_safe_call, basic_string, basic_true, bindings_none, commas_more, list_is, part_field, part_index, parts_more, parts_none, postfix_is}
 use Rattle.sql_grammar.specs.Ways.{Parser, Ended}
 use Rattle.sql_grammar.specs.Classes.{class_of, basic_lexeme, name_class, content_class, BasicStart, NameWord, Content, an_integer, a_string, a_bytes, a_true, a_false, a_null, a_parameter, a_name, an_if, a_bracket, a_case, a_cast, an_extract, a_grouping, an_exists, an_array, a_square, a_struct, a_with, no_basic, the_date, the_safe, plain_name, by_select, by_with, by_expr}
-use Rattle.sql_grammar.specs.Exprs.{tells, told, opening_of, grouped, starred, part_next, call_of, called, with_item, with_body, safe_part, name_by, name_opened, index, field_or_star, part_or_star, parts_from, postfix_from, listed, two_listed, query_closed, held_from, held_with, enclosed_by, enclosed, group, basic_by, opened_by, opened, postfix_or_star, postfix, Opening, Below, with_read, held_query, held_exprs}
+use Rattle.sql_grammar.specs.Exprs.{tells, told, opening_of, grouped, starred, part_next, call_of, called, with_item, with_body, safe_part, name_by, name_opened, index, field_or_star, part_or_star, parts_from, postfix_from, listed, two_listed, query_closed, held_from, held_with, enclosed_by, enclosed, group, opened_by, opened, postfix_or_star, postfix, Opening, Below, with_read, held_query, held_exprs}
 use Rattle.sql_grammar.proofs.Ways.{FoundTo, exact_until, Begun, start_front}
-use Rattle.sql_grammar.proofs.Marks.{the_reserved, the_sign, some_name, some_integer, some_text, some_bytes, some_parameter, a_form, tok, also, opt, opt_also, tok_opens, says, AfterOf, after_of}
+use Rattle.sql_grammar.proofs.Marks.{the_reserved, the_sign, some_name, some_integer, some_text, some_bytes, some_parameter, a_form, tok, also, opt, opt_also, tok_opens, Taker, taker, says, AfterOf, after_of}
 use Rattle.sql_grammar.proofs.Solid.{solid_front, solid_basic, solid_postfix, no_expr, some_basic, some_postfix}
-use Rattle.sql_grammar.proofs.Levels.{From, begun_on, level, no_word}
+use Rattle.sql_grammar.proofs.Starts.{begins_basic}
+use Rattle.sql_grammar.proofs.Levels.{From, begun_on, level, level_opens, no_word}
 use Rattle.sql_grammar.proofs.Calls.{Under, Bracketed, comma_expr_exact, comma_expr_opens, bracketed_exact, list_closed_to, call_body_exact, call_of_exact, bracketed_is}
 use Rattle.sql_grammar.proofs.Subqueries.{TermText, no_subquery_shuts, expr_term}
-use Rattle.sql_grammar.proofs.Basics.{OpenedOf, StarOf, PartsTo, PartTo, part_to_solid, parts_more_to, parts_end_to, parts_join, opened_basic, HeldOf, group_from, WithTo, WithsTo, with_to_solid, withs_more, withs_end, called_by, called_exact, case_exact, cast_exact, extract_exact, grouping_exact, exists_exact, array_from_exact, array_exact, struct_exact, bound_exact, with_item_exact, with_item_opens, with_end_exact, with_body_exact, with_expr_exact, opened_plain, opened_star, star_none, star_is, parts_to_end, parts_to_star, part_to, part_to_star, holds_query, holds_exprs, withs_none}
+use Rattle.sql_grammar.proofs.Basics.{OpenedOf, StarOf, PartsTo, PartTo, part_to_solid, parts_more_to, parts_end_to, parts_join, opened_basic, HeldOf, group_from, WithTo, WithsTo, with_to_solid, withs_more, withs_end, called_by, called_exact, case_taker, cast_taker, extract_taker, grouping_taker, exists_taker, array_from_taker, array_taker, struct_taker, bound_exact, with_item_exact, with_item_opens, with_end_exact, with_body_exact, with_expr_taker, opened_plain, opened_star, star_none, star_is, parts_to_end, parts_to_star, part_to, part_to_star, holds_query, holds_exprs, withs_none}
 
 -- a choice of which the first branch is never taken
 pub exact_never : {A : Type 0} (n : ℕ) (M : Language Token A) (fits : Token → Bool) → ((t : Token) → fits t ≡ false) → (p p' q q' : Parser A) → Exact n M q q' → Exact n M (if_comes fits p q) (if_comes fits p' q')
@@ -221,9 +222,9 @@ module _ (n m : ℕ) (up : n ≤ m) (b b' : Below) (x : Under n b b') where
   unfolding called
   called_opens t it y h = tok_opens h (λ o io. into (called_by n m up b b' x t o it io (word w.SafeCast t) refl) (λ a u l. tt))
 
-  pub name_exact : (star : Bool) → Exact (suc n) (OpenedOf star) (name_opened n b star) (name_opened m b' star)
+  pub name_taker : (star : Bool) → Taker (suc n) named (OpenedOf star) (name_opened n b star) (name_opened m b' star)
   unfolding name_opened
-  name_exact star = tok some_name (λ t it. either (sign s.OpenRound) (λ y h. opens (opens_bind (called_opens t (function_named t it) y h) (called_exact n m up b b' x t (function_named t it)) (λ a u l. done {n = 0} tt)))
+  name_taker star = taker some_name (λ t it. either (sign s.OpenRound) (λ y h. opens (opens_bind (called_opens t (function_named t it) y h) (called_exact n m up b b' x t (function_named t it)) (λ a u l. done {n = 0} tt)))
       (last (λ a. (a, ([], None))) (less (called_exact n m up b b' x t (function_named t it))) (λ a u l. opened_basic star a (t ∷ u) l))
       (name_kinds star t it (name_class t.lexeme) refl))
 
@@ -288,72 +289,62 @@ module _ (n m : ℕ) (up : n ≤ m) (b b' : Below) (x : Under n b b') where
   unfolding enclosed
   enclosed_exact = exact_peek n HeldOf (class_of by_expr content_class) (enclosed_by n b) (enclosed_by m b') (λ t k h. hungry (hungry_bind x.inner _ (hungry_solid x.inner no_expr))) enclosed_kinds
 
-  pub group_exact : Exact (suc n) BasicOf (group n b) (group m b')
+  pub group_taker : Taker (suc n) (sign s.OpenRound) BasicOf (group n b) (group m b')
   unfolding group
-  group_exact = tok (the_sign s.OpenRound) (λ o io. last (grouped o.start) enclosed_exact (λ h u l. group_from o io h u l))
+  group_taker = taker (the_sign s.OpenRound) (λ o io. last (grouped o.start) enclosed_exact (λ h u l. group_from o io h u l))
 
   -- ---- basic expressions
 
-  pub if_exact : Exact (suc n) BasicOf (token (reserved r.If) >>= (λ t. call_of n b t >>= (λ k. pure (e.Call k t.start)))) (token (reserved r.If) >>= (λ t. call_of m b' t >>= (λ k. pure (e.Call k t.start))))
-  if_exact = tok (the_reserved r.If) (λ t it. last (λ k. e.Call k t.start) (less (call_of_exact n m up b b' x t (function_if t it))) (λ k u l. basic_call l))
+  pub if_taker : Taker (suc n) (reserved r.If) BasicOf (token (reserved r.If) >>= (λ t. call_of n b t >>= (λ k. pure (e.Call k t.start)))) (token (reserved r.If) >>= (λ t. call_of m b' t >>= (λ k. pure (e.Call k t.start))))
+  if_taker = taker (the_reserved r.If) (λ t it. last (λ k. e.Call k t.start) (less (call_of_exact n m up b b' x t (function_if t it))) (λ k u l. basic_call l))
 
-  pub basic_kinds : (k : BasicStart) → Exact (suc n) BasicOf (basic_by n b k) (basic_by m b' k)
-  basic_kinds an_integer = tok some_integer (λ t it. done (basic_integer it))
-  basic_kinds a_string = tok some_text (λ t it. done (basic_string it))
-  basic_kinds a_bytes = tok some_bytes (λ t it. done (basic_bytes it))
-  basic_kinds a_true = tok (the_reserved r.True) (λ t it. done (basic_true it))
-  basic_kinds a_false = tok (the_reserved r.False) (λ t it. done (basic_false it))
-  basic_kinds a_null = tok (the_reserved r.Null) (λ t it. done (basic_null it))
-  basic_kinds a_parameter = tok some_parameter (λ t it. done (basic_parameter it))
-  basic_kinds a_name = exact_refuse (suc n) BasicOf some_basic.0 some_basic.1 some_basic.2
-  basic_kinds an_if = if_exact
-  basic_kinds a_bracket = group_exact
-  basic_kinds a_case = case_exact n m up b b' x
-  basic_kinds a_cast = cast_exact n m up b b' x
-  basic_kinds an_extract = extract_exact n m up b b' x
-  basic_kinds a_grouping = grouping_exact n m up b b' x
-  basic_kinds an_exists = exists_exact n m up b b' x
-  basic_kinds an_array = array_exact n m up b b' x
-  basic_kinds a_square = array_from_exact n m up b b' x BasicOf None None (λ d xs u z. basic_array z)
-  basic_kinds a_struct = struct_exact n m up b b' x
-  basic_kinds a_with = with_expr_exact n m up b b' x
-  basic_kinds no_basic = exact_refuse (suc n) BasicOf some_basic.0 some_basic.1 some_basic.2
+  -- a basic expression with which no part is read
+  pub opened_alone : (star : Bool) {fits : Token → Bool} {p p' : Parser Expr} → Taker (suc n) fits BasicOf p p' → Taker (suc n) fits (OpenedOf star) (p >>= (λ a. pure (a, ([], None)))) (p' >>= (λ a. pure (a, ([], None))))
+  opened_alone star y = record {
+    exact = last (λ a. (a, ([], None))) y.exact (λ a u l. opened_basic star a u l);
+    takes = λ t h. opens_bind (y.takes t h) y.exact (λ a u l. done {n = 0} tt);
+  }
 
-  pub opened_basics : (star : Bool) (k : BasicStart) → Exact (suc n) (OpenedOf star) (basic_by n b k >>= (λ a. pure (a, ([], None)))) (basic_by m b' k >>= (λ a. pure (a, ([], None))))
-  opened_basics star k = last (λ a. (a, ([], None))) (basic_kinds k) (λ a u l. opened_basic star a u l)
-
-  pub opened_kinds : (star : Bool) (k : BasicStart) → Exact (suc n) (OpenedOf star) (opened_by n b star k) (opened_by m b' star k)
-  opened_kinds star a_name = name_exact star
-  opened_kinds star an_integer = opened_basics star an_integer
-  opened_kinds star a_string = opened_basics star a_string
-  opened_kinds star a_bytes = opened_basics star a_bytes
-  opened_kinds star a_true = opened_basics star a_true
-  opened_kinds star a_false = opened_basics star a_false
-  opened_kinds star a_null = opened_basics star a_null
-  opened_kinds star a_parameter = opened_basics star a_parameter
-  opened_kinds star an_if = opened_basics star an_if
-  opened_kinds star a_bracket = opened_basics star a_bracket
-  opened_kinds star a_case = opened_basics star a_case
-  opened_kinds star a_cast = opened_basics star a_cast
-  opened_kinds star an_extract = opened_basics star an_extract
-  opened_kinds star a_grouping = opened_basics star a_grouping
-  opened_kinds star an_exists = opened_basics star an_exists
-  opened_kinds star an_array = opened_basics star an_array
-  opened_kinds star a_square = opened_basics star a_square
-  opened_kinds star a_struct = opened_basics star a_struct
-  opened_kinds star a_with = opened_basics star a_with
-  opened_kinds star no_basic = opened_basics star no_basic
+  pub opened_takers : (star : Bool) (k : BasicStart) → Taker (suc n) (begins_basic k) (OpenedOf star) (opened_by n b star k) (opened_by m b' star k)
+  opened_takers star a_name = name_taker star
+  opened_takers star an_integer = opened_alone star (taker some_integer (λ t it. done (basic_integer it)))
+  opened_takers star a_string = opened_alone star (taker some_text (λ t it. done (basic_string it)))
+  opened_takers star a_bytes = opened_alone star (taker some_bytes (λ t it. done (basic_bytes it)))
+  opened_takers star a_true = opened_alone star (taker (the_reserved r.True) (λ t it. done (basic_true it)))
+  opened_takers star a_false = opened_alone star (taker (the_reserved r.False) (λ t it. done (basic_false it)))
+  opened_takers star a_null = opened_alone star (taker (the_reserved r.Null) (λ t it. done (basic_null it)))
+  opened_takers star a_parameter = opened_alone star (taker some_parameter (λ t it. done (basic_parameter it)))
+  opened_takers star an_if = opened_alone star if_taker
+  opened_takers star a_bracket = opened_alone star group_taker
+  opened_takers star a_case = opened_alone star (case_taker n m up b b' x)
+  opened_takers star a_cast = opened_alone star (cast_taker n m up b b' x)
+  opened_takers star an_extract = opened_alone star (extract_taker n m up b b' x)
+  opened_takers star a_grouping = opened_alone star (grouping_taker n m up b b' x)
+  opened_takers star an_exists = opened_alone star (exists_taker n m up b b' x)
+  opened_takers star an_array = opened_alone star (array_taker n m up b b' x)
+  opened_takers star a_square = opened_alone star (array_from_taker n m up b b' x BasicOf None None (λ d xs u z. basic_array z))
+  opened_takers star a_struct = opened_alone star (struct_taker n m up b b' x)
+  opened_takers star a_with = opened_alone star (with_expr_taker n m up b b' x)
+  opened_takers star no_basic = opened_alone star (record { exact = exact_refuse (suc n) BasicOf some_basic.0 some_basic.1 some_basic.2; takes = λ t h. absurd cc })
 
   pub refuse_hungry : {A : Type 0} (q : Expr → Parser A) → Hungry (refuse >>= q)
   refuse_hungry q = record { wants = λ a h. cc }
 
   pub opened_exact : (star : Bool) → Exact (suc n) (OpenedOf star) (opened n b star) (opened m b' star)
   unfolding opened
-  opened_exact star = exact_peek (suc n) (OpenedOf star) (class_of no_basic basic_lexeme) (opened_by n b star) (opened_by m b' star) (λ t k h. hungry (refuse_hungry (λ a. pure (a, ([], None))))) (opened_kinds star)
+  opened_exact star = exact_peek (suc n) (OpenedOf star) (class_of no_basic basic_lexeme) (opened_by n b star) (opened_by m b' star) (λ t k h. hungry (refuse_hungry (λ a. pure (a, ([], None))))) (λ k. (opened_takers star k).exact)
+
+  pub opened_opens : (star : Bool) (t : Token) → begins_basic (basic_lexeme t.lexeme) t ≡ true → Opens t (opened m b' star)
+  unfolding opened
+  opened_opens star t h = let g = (opened_takers star (basic_lexeme t.lexeme)).takes t h in record { goes = λ rest e. g.goes rest e; moves = λ rest a e. g.moves rest a e }
 
   pub postfix_or_star_exact : (star : Bool) → Exact (suc n) (StarOf star) (postfix_or_star n b star) (postfix_or_star m b' star)
   unfolding postfix_or_star
   postfix_or_star_exact star = level (suc n) (OpenedOf star) (StarOf star) (_, _, star_none (some_postfix.2)) (no_word (StarOf star) (no_star star)) (no_opened star) (opened n b star) (opened m b' star) _ _ (opened_exact star) (parts_exact star)
+
+  pub postfix_or_star_opens : (star : Bool) (t : Token) → begins_basic (basic_lexeme t.lexeme) t ≡ true → Opens t (postfix_or_star m b' star)
+  unfolding postfix_or_star
+  postfix_or_star_opens star t h = level_opens (OpenedOf star) (StarOf star) (no_opened star) (opened n b star) (opened m b' star) _ _ (opened_exact star) (parts_exact star) t (opened_opens star t h)
 
   pub postfix_exact : Exact (suc n) PostfixOf (postfix n b) (postfix m b')
   unfolding postfix

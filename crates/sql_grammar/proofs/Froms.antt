@@ -20,13 +20,13 @@ use Rattle.sql_ast.specs.declared.query.Joined.{Joined}
 use Rattle.sql_ast.specs.declared.query.Primary.{Primary}
 use Rattle.sql_ast.specs.declared.token.Lexeme.{Lexeme}
 use Rattle.sql_ast.specs.declared.token.Token.{Token}
-use Rattle.sql_ast.specs.declared.words.Reserved.{Reserved}
+use Rattle.sql_names.specs.declared.words.Reserved.{Reserved}
 use Rattle.sql_ast.specs.declared.clauses.On.TheVariants as on_kind
 use Rattle.sql_ast.specs.declared.clauses.Turn.TheVariants as turn_kind
 use Rattle.sql_ast.specs.declared.query.JoinWord.TheVariants as join_word_kind
 use Rattle.sql_ast.specs.declared.query.Primary.TheVariants as primary_kind
 use Rattle.sql_ast.specs.declared.token.Lexeme.TheVariants as l
-use Rattle.sql_ast.specs.declared.words.Reserved.TheVariants as r
+use Rattle.sql_names.specs.declared.words.Reserved.TheVariants as r
 use Rattle.sql_ast.specs.declared.words.Sign.TheVariants as s
 use Rattle.sql_ast.specs.declared.words.Word.TheVariants as w
 use Rattle.sql_ast.specs.Marks.{Tokens, Is, reserved, sign, word, named, start_of, same_reserved, reserved_lexeme}

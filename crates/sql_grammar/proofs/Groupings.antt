@@ -18,7 +18,7 @@ use Rattle.sql_ast.specs.declared.grouping.CubeKind.TheVariants as cube_kinds
 use Rattle.sql_ast.specs.declared.grouping.GroupItem.TheVariants as group_item_kind
 use Rattle.sql_ast.specs.declared.grouping.GroupSet.TheVariants as group_set_kind
 use Rattle.sql_ast.specs.declared.grouping.Groups.TheVariants as groups_kind
-use Rattle.sql_ast.specs.declared.words.Reserved.TheVariants as r
+use Rattle.sql_names.specs.declared.words.Reserved.TheVariants as r
 use Rattle.sql_ast.specs.declared.words.Sign.TheVariants as s
 use Rattle.sql_ast.specs.declared.words.Word.TheVariants as w
 use Rattle.sql_ast.specs.Marks.{Tokens, Is, reserved, sign, word, start_of}

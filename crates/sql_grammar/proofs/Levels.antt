@@ -4,7 +4,7 @@ use Rattle.std.proofs.lemmas.List.{append_assoc, append-nil}
 use Rattle.fronts.specs.Fronts.{Language}
 use Rattle.fronts.specs.Readers.{◌>>=◌}
 use Rattle.fronts.proofs.Firm.{Opens}
-use Rattle.fronts.proofs.Exact.{Exact, bind, last, into, done, less, exact_all}
+use Rattle.fronts.proofs.Exact.{Exact, bind, last, into, done, less, exact_all, opens_bind}
 use Rattle.sql_ast.specs.declared.words.Sign.TheVariants as s
 use Rattle.sql_ast.specs.declared.token.Token.{Token}
 use Rattle.sql_ast.specs.declared.expr.Expr.{Expr}
@@ -38,6 +38,13 @@ pub level : {A B : Type 0} (n : ℕ) (L : Language Token A) (M : Language Token 
     (solid : (a : A) (u : Tokens) → L a u → 1 ≤ length u) (p p' : Parser A) (f f' : ℕ → A → Parser B)
     → Exact n L p p' → From n L M f f' → Exact n M (starting (λ k. p >>= f k)) (starting (λ k. p' >>= f' k))
 level n L M some nothing solid p p' f f' x y = exact_starting M some nothing (λ k. p >>= f k) (λ k. p' >>= f' k) n (λ k. bind x (λ a u l. y k a u (begun_as L solid k a u l)))
+
+-- it takes each token that its operand takes
+pub level_opens : {A B : Type 0} {n : ℕ} (L : Language Token A) (M : Language Token B) (solid : (a : A) (u : Tokens) → L a u → 1 ≤ length u) (p p' : Parser A) (f f' : ℕ → A → Parser B)
+    → Exact n L p p' → From n L M f f' → (t : Token) → Opens t p' → Opens t (starting (λ k. p' >>= f' k))
+level_opens L M solid p p' f f' x y t h =
+    let g : Opens t (p' >>= f' t.start) = opens_bind h x (λ a u l. into (y t.start a u (begun_as L solid t.start a u l)) (λ b v z. tt)) in
+    record { goes = λ rest e. g.goes rest e; moves = λ rest a e. g.moves rest a e }
 
 pub no_word : {A : Type 0} (M : Language Token A) (solid : (a : A) (u : Tokens) → M a u → 1 ≤ length u) (b : A) → M b [] → ⊥
 no_word M solid b h = let e = solid b [] h in omega arith

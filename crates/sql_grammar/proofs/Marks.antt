@@ -8,10 +8,10 @@ use Rattle.fronts.specs.Readers.{◌>>=◌, token, if_comes}
 use Rattle.fronts.proofs.Firm.{Opens, Any}
 use Rattle.fronts.proofs.Exact as E
 use Rattle.fronts.proofs.Exact.{Exact, less, opens_tok}
-use Rattle.sql_ast.specs.contracts.words.Reserved as reserved_contract
+use Rattle.sql_names.specs.contracts.words.Reserved as reserved_contract
 use Rattle.sql_ast.specs.contracts.words.Word as word_contract
 use Rattle.sql_ast.specs.contracts.words.Sign as sign_contract
-use Rattle.sql_ast.specs.declared.words.Reserved.{Reserved}
+use Rattle.sql_names.specs.declared.words.Reserved.{Reserved}
 use Rattle.sql_ast.specs.declared.words.Word.{Word}
 use Rattle.sql_ast.specs.declared.words.Sign.{Sign}
 use Rattle.sql_ast.specs.declared.token.Token.{Token}
@@ -20,7 +20,7 @@ use Rattle.sql_ast.specs.declared.token.Lexeme.TheVariants as l
 use Rattle.sql_ast.specs.Marks.{closes_shift, Tokens, Is, Says, same_reserved, same_word, same_sign, reserved, sign, word, named, text, bytes, integer, parameter}
 use Rattle.sql_ast.specs.Parts.{from_alias, counts}
 use Rattle.sql_ast.specs.Trees.{function_of, prefix_of, product_of, sum_of, comparison_of, quantifier_of, test_of, form_of, cube_of}
-use Rattle.sql_ast.specs.declared.words.Reserved.TheVariants as r
+use Rattle.sql_names.specs.declared.words.Reserved.TheVariants as r
 use Rattle.sql_ast.specs.declared.words.Sign.TheVariants as s
 use Rattle.sql_ast.specs.declared.words.Word.TheVariants as w
 use Rattle.sql_grammar.specs.Classes.{set_word_of}
@@ -151,6 +151,16 @@ opt_also {A} {n} {M} {fits} x then y = E.either_also fits x.0 x.1 (λ t h. then 
 pub tok_opens : {B : Type 0} {n : ℕ} {fits : Token → Bool} {q q' : Token → Parser B} {t : Token}
     → fits t ≡ true → ((s : Token) → Is fits s → Exact n Any (q s) (q' s)) → Opens t (token fits >>= q')
 tok_opens h then = opens_tok h (λ s i. then s (record { is = i }))
+
+-- a reader that is exact, and takes each token that fits
+pub record Taker {A : Type 0} (n : ℕ) (fits : Token → Bool) (L : Language Token A) (p p' : Parser A) : Type 0 where
+  pub exact : Exact n L p p'
+  pub takes : (t : Token) → fits t ≡ true → Opens t p'
+
+-- one that begins with such a token
+pub taker : {A : Type 0} {n : ℕ} {M : Language Token A} {fits : Token → Bool} {q q' : Token → Parser A} → Example fits
+    → ((t : Token) → Is fits t → Exact n (λ b v. M b (t ∷ v)) (q t) (q' t)) → Taker (suc n) fits M (token fits >>= q) (token fits >>= q')
+taker x then = record { exact = tok x then; takes = λ t h. tok_opens h (λ s i. E.into (then s i) (λ b v l. tt)) }
 
 -- ---- what tokens say
 

@@ -12,23 +12,24 @@ use Rattle.sql_ast.specs.declared.clauses.Replacement.{Replacement}
 use Rattle.sql_ast.specs.declared.expr.Expr.{Expr}
 use Rattle.sql_ast.specs.declared.token.Token.{Token}
 use Rattle.sql_ast.specs.declared.clauses.Item.TheVariants as item_kind
-use Rattle.sql_ast.specs.declared.words.Reserved.TheVariants as r
+use Rattle.sql_names.specs.declared.words.Reserved.TheVariants as r
 use Rattle.sql_ast.specs.declared.words.Sign.TheVariants as s
 use Rattle.sql_ast.specs.declared.words.Word.TheVariants as w
 use Rattle.sql_ast.specs.Marks.{Tokens, Is, reserved, sign, word, start_of}
 use Rattle.sql_ast.specs.Grammar.{EditOf, ExprOf, ItemOf, ItemsOf, PostfixOf, ReplaceOf, ReplacementOf, ReplacementsOf, edit_is, except_is, except_none, item_expr, item_qualified, item_star, items_comma, items_more, items_none, replace_is, replace_none, replacement_is, replacements_more, replacements_none}
 use Rattle.sql_ast.specs.Parts.{NamesOf, name_commas_none, names_are}
 use Rattle.sql_grammar.specs.Ways.{Ended}
-use Rattle.sql_grammar.specs.Classes.{class_of, item_class, starts_item, ItemStart, item_by_star, item_by_prefix, item_by_basic, no_item}
+use Rattle.sql_grammar.specs.Classes.{class_of, item_class, starts_item, is_item, ItemStart, item_by_star, item_by_prefix, item_by_basic, no_item}
 use Rattle.sql_grammar.specs.Exprs.{Below}
 use Rattle.sql_grammar.specs.Queries.{except_end, replacement, comma_replacement, replaces, except_or_end, edited, aliased, item_after, item_by as read_item_by, item_or_except, items_after, items_from, items, ItemsEnd, at_comma, at_except}
 use Rattle.sql_grammar.proofs.Ways.{exact_until, Begun, start_front, exact_starting}
 use Rattle.sql_grammar.proofs.Marks.{the_reserved, the_sign, the_word, some_name, is_example, tok, also, opt, opt_also, tok_opens, AfterOf, after_of, after_solid, after_exact, after_opens}
 use Rattle.sql_grammar.proofs.Words.{alias_exact}
 use Rattle.sql_grammar.proofs.Solid.{solid_front, solid_postfix, solid_expr}
+use Rattle.sql_grammar.proofs.Starts.{star_begins, prefix_begins, basic_begins}
 use Rattle.sql_grammar.proofs.Levels.{begun_as, begun_on, no_word}
 use Rattle.sql_grammar.proofs.Calls.{Under}
-use Rattle.sql_grammar.proofs.Exprs.{no_star, postfix_or_star_exact}
+use Rattle.sql_grammar.proofs.Exprs.{no_star, postfix_or_star_exact, postfix_or_star_opens}
 use Rattle.sql_grammar.proofs.Comparisons.{expr_from_exact}
 use Rattle.sql_grammar.proofs.Froms.{names_exact, names_opens}
 use Rattle.sql_grammar.proofs.Basics.{StarOf, star_none, star_is}
@@ -200,9 +201,12 @@ module _ (n m : ℕ) (up : n ≤ m) (b b' : Below) (x : Under n b b') where
             (edit_longer (λ d. item_kind.QualifiedStar a d (start_of u)) u (qualified k a t u l) e ie);
       })
 
+  star_exact : (k : ℕ) (t : Token) → Is (sign s.Star) t → Exact n (λ y v. Begun (Excepted ItemOf) k y (t ∷ v)) (edited n b (λ d. item_kind.Star d t.start)) (edited m b' (λ d. item_kind.Star d t.start))
+  star_exact k t it = edited_exact (Begun (Excepted ItemOf) k) (λ d. item_kind.Star d t.start) (t ∷ [])
+      (λ d v ld. record { solid = omega arith; spells = λ h. plainly (item_star it ld) }) (λ e ie. record { solid = omega arith; spells = λ h. edit_longer (λ d. item_kind.Star d t.start) (t ∷ []) (λ d v ld. item_star it ld) e ie })
+
   item_kinds : (k : ℕ) (y : ItemStart) → Exact n (Begun (Excepted ItemOf) k) (read_item_by n b k y) (read_item_by m b' k y)
-  item_kinds k item_by_star = also (the_sign s.Star) (λ t it. edited_exact (Begun (Excepted ItemOf) k) (λ d. item_kind.Star d t.start) (t ∷ [])
-      (λ d v ld. record { solid = omega arith; spells = λ h. plainly (item_star it ld) }) (λ e ie. record { solid = omega arith; spells = λ h. edit_longer (λ d. item_kind.Star d t.start) (t ∷ []) (λ d v ld. item_star it ld) e ie }))
+  item_kinds k item_by_star = also (the_sign s.Star) (star_exact k)
   item_kinds k item_by_prefix = bind x.inner (λ a u l. aliased_exact k a u (begun_as ExprOf solid_expr k a u l))
   item_kinds k item_by_basic = bind (less (postfix_or_star_exact n m up b b' x true)) (λ y u l. item_after_exact k y u l)
   item_kinds k no_item = exact_refuse n _ (some_item.0, None) some_item.1 (begun_as (Excepted ItemOf) (excepted_solid ItemOf solid_item) k (some_item.0, None) some_item.1 (plainly some_item.2))
@@ -212,23 +216,32 @@ module _ (n m : ℕ) (up : n ≤ m) (b b' : Below) (x : Under n b b') where
   item_exact = exact_starting (Excepted ItemOf) ((some_item.0, None), some_item.1, plainly some_item.2) (no_word (Excepted ItemOf) (excepted_solid ItemOf solid_item)) _ _ n
       (λ k. exact_peek n _ (class_of no_item item_class) (read_item_by n b k) (read_item_by m b' k) (λ t y h. hungry hungry_refuse) (item_kinds k))
 
-  -- where the tokens that begin an item are taken by its reader
-  module _ (item_opens : (t : Token) → starts_item t ≡ true → Opens t (item_or_except m b')) where
-    items_after_exact : Exact (suc n) ItemTo (items_after n b) (items_after m b')
-    unfolding items_after
-    items_after_exact = tok (the_sign s.Comma) (λ t it. either starts_item (λ z h. opens (opens_bind (item_opens z h) item_exact (λ y u l. done {n = 0} tt)))
-        (last (λ (y : Item Expr × Option Token). (y.0 ∷ [], except_end y.1)) item_exact (λ y u l. item_to_from t it y u l)) (done (item_to_comma it)))
+  -- the tokens that begin an item are taken
+  item_by_opens : (k : ℕ) (t : Token) (y : ItemStart) → item_class t.lexeme ≡ y → is_item y ≡ true → Opens t (read_item_by m b' k y)
+  item_by_opens k t item_by_star h g = tok_opens (star_begins t.lexeme h) (λ z iz. into (star_exact k z iz) (λ a v q. tt))
+  item_by_opens k t item_by_prefix h g = opens_bind (x.prefixed t (prefix_begins t.lexeme h)) x.inner (λ a u l. into (aliased_exact k a u (begun_as ExprOf solid_expr k a u l)) (λ c v q. tt))
+  item_by_opens k t item_by_basic h g = opens_bind (postfix_or_star_opens n m up b b' x true t (basic_begins t.lexeme h)) (postfix_or_star_exact n m up b b' x true) (λ y u l. into (item_after_exact k y u l) (λ c v q. tt))
+  item_by_opens k t no_item h g = absurd cc
 
-    items_after_opens : (t : Token) → sign s.Comma t ≡ true → Opens t (items_after m b')
-    unfolding items_after
-    items_after_opens t h = tok_opens h (λ z iz. either starts_item (λ z h. opens (opens_bind (item_opens z h) item_exact (λ y u l. done {n = 0} tt)))
-        (last (λ (y : Item Expr × Option Token). (y.0 ∷ [], except_end y.1)) item_exact (λ y u l. tt)) (done tt))
+  item_opens : (t : Token) → starts_item t ≡ true → Opens t (item_or_except m b')
+  unfolding item_or_except
+  item_opens t h = let g = item_by_opens t.start t (item_class t.lexeme) refl h in record { goes = λ rest e. g.goes rest e; moves = λ rest a e. g.moves rest a e }
 
-    items_from_exact : (y : Item Expr × Option Token) (u : Tokens) → Excepted ItemOf y u → Exact n (λ c v. AllItems c (u ++ v)) (items_from n b y.0 y.1) (items_from m b' y.0 y.1)
-    items_from_exact (i, None) u l = into (exact_until ItemTo ItemsTo (sign s.Comma) (items_after n b) (items_after m b') (items_to plain_none) items_more_to items_end_to item_to_solid items_after_opens n m n up (omega arith) (less items_after_exact) (i ∷ []))
-        (λ c v f. subst (λ (q : List (Item Expr)). AllItems (q, c.1) (u ++ v)) (sym f.2) (all_from i u (item_plain i u l) f.0 c.1 v f.1))
-    items_from_exact (i, Some t) u l = done (subst (AllItems (i ∷ [], Some (at_except t))) (sym (append-nil u)) (all_first i t u l))
+  items_after_exact : Exact (suc n) ItemTo (items_after n b) (items_after m b')
+  unfolding items_after
+  items_after_exact = tok (the_sign s.Comma) (λ t it. either starts_item (λ z h. opens (opens_bind (item_opens z h) item_exact (λ y u l. done {n = 0} tt)))
+      (last (λ (y : Item Expr × Option Token). (y.0 ∷ [], except_end y.1)) item_exact (λ y u l. item_to_from t it y u l)) (done (item_to_comma it)))
 
-    pub items_exact : Exact n AllItems (items n b) (items m b')
-    unfolding items
-    items_exact = bind item_exact (λ y u l. items_from_exact y u l)
+  items_after_opens : (t : Token) → sign s.Comma t ≡ true → Opens t (items_after m b')
+  unfolding items_after
+  items_after_opens t h = tok_opens h (λ z iz. either starts_item (λ z h. opens (opens_bind (item_opens z h) item_exact (λ y u l. done {n = 0} tt)))
+      (last (λ (y : Item Expr × Option Token). (y.0 ∷ [], except_end y.1)) item_exact (λ y u l. tt)) (done tt))
+
+  items_from_exact : (y : Item Expr × Option Token) (u : Tokens) → Excepted ItemOf y u → Exact n (λ c v. AllItems c (u ++ v)) (items_from n b y.0 y.1) (items_from m b' y.0 y.1)
+  items_from_exact (i, None) u l = into (exact_until ItemTo ItemsTo (sign s.Comma) (items_after n b) (items_after m b') (items_to plain_none) items_more_to items_end_to item_to_solid items_after_opens n m n up (omega arith) (less items_after_exact) (i ∷ []))
+      (λ c v f. subst (λ (q : List (Item Expr)). AllItems (q, c.1) (u ++ v)) (sym f.2) (all_from i u (item_plain i u l) f.0 c.1 v f.1))
+  items_from_exact (i, Some t) u l = done (subst (AllItems (i ∷ [], Some (at_except t))) (sym (append-nil u)) (all_first i t u l))
+
+  pub items_exact : Exact n AllItems (items n b) (items m b')
+  unfolding items
+  items_exact = bind item_exact (λ y u l. items_from_exact y u l)

@@ -2,7 +2,7 @@
 use Rattle.std.proofs.Common.{◌≤◌, List, [], ◌++◌, length, arith}
 use Rattle.std.proofs.lemmas.List.{length-append}
 use Rattle.sql_types.specs.declared.kinds.SetKind.TheVariants as set
-use Rattle.sql_ast.specs.declared.words.Reserved.TheVariants as r
+use Rattle.sql_names.specs.declared.words.Reserved.TheVariants as r
 use Rattle.sql_ast.specs.declared.words.Sign.TheVariants as s
 use Rattle.sql_ast.specs.declared.token.Token.{Token}
 use Rattle.sql_ast.specs.declared.expr.Expr.{Expr}

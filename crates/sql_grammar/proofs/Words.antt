@@ -5,7 +5,7 @@ use Rattle.fronts.specs.Fronts.{Language}
 use Rattle.fronts.proofs.Agrees.{Found}
 use Rattle.fronts.proofs.Firm.{Opens, hungry, opens}
 use Rattle.fronts.proofs.Exact.{Exact, bind, either, last, done, less, exact_many, exact_peek, exact_refuse, hungry_refuse, opens_bind}
-use Rattle.sql_ast.specs.declared.words.Reserved.TheVariants as r
+use Rattle.sql_names.specs.declared.words.Reserved.TheVariants as r
 use Rattle.sql_ast.specs.declared.words.Sign.TheVariants as s
 use Rattle.sql_ast.specs.declared.words.Word.TheVariants as w
 use Rattle.sql_ast.specs.declared.token.Token.{Token}

@@ -1,7 +1,7 @@
 -- The readers of expressions. What stands in parentheses is read by readers of less depth.
 use Rattle.std.specs.Prelude.{ℕ, Bool, true, false, ◌||◌, ◌&&◌, List, [], ◌∷◌, Option, Some, None}
 use Rattle.fronts.specs.Readers.{◌>>=◌, ◌>>◌, pure, refuse, peek, token, if_comes, many, noting}
-use Rattle.sql_ast.specs.declared.words.Reserved.TheVariants as r
+use Rattle.sql_names.specs.declared.words.Reserved.TheVariants as r
 use Rattle.sql_ast.specs.declared.words.Sign.{Sign}
 use Rattle.sql_ast.specs.declared.words.Sign.TheVariants as s
 use Rattle.sql_ast.specs.declared.words.Word.TheVariants as w

@@ -1,8 +1,8 @@
 -- The readers of what holds no expression: names, aliases, types, and words that may stand.
 use Rattle.std.specs.Prelude.{ℕ, zero, suc, Bool, true, false, List, [], ◌∷◌, Option, Some, None}
 use Rattle.fronts.specs.Readers.{◌>>=◌, ◌>>◌, pure, refuse, peek, token, if_comes, many}
-use Rattle.sql_ast.specs.declared.words.Reserved.{Reserved}
-use Rattle.sql_ast.specs.declared.words.Reserved.TheVariants as r
+use Rattle.sql_names.specs.declared.words.Reserved.{Reserved}
+use Rattle.sql_names.specs.declared.words.Reserved.TheVariants as r
 use Rattle.sql_ast.specs.declared.words.Sign.TheVariants as s
 use Rattle.sql_ast.specs.declared.words.Word.TheVariants as w
 use Rattle.sql_ast.specs.declared.token.Token.{Token}

@@ -1,6 +1,6 @@
 -- Names, scopes, and what a path denotes.
 use Rattle.std.specs.Prelude.{ℕ, ◌+◌, Bool, true, false, not, ◌&&◌, if◌then◌else◌, List, [], ◌∷◌, slice_get, Option, None, Some, option_and_then}
-use Rattle.sql_ast.specs.Words.{same_name}
+use Rattle.sql_names.specs.Words.{same_name}
 use Rattle.sql_rules.specs.declared.scope.Entry.{Entry}
 use Rattle.sql_rules.specs.declared.scope.Member.{Member}
 use Rattle.sql_rules.specs.declared.scope.What.{What}

@@ -28,6 +28,11 @@ comparable_layer (t.Struct fields) = all_fields fields
 unfoldable pub comparable : SqlType → Bool
 comparable = fold-SqlType Bool comparable_layer
 
+-- each field is of a comparable type
+abbrev pub all_comparable : List (Named SqlType) → Bool
+all_comparable [] = true
+all_comparable (f ∷ fs) = comparable f.ty && all_comparable fs
+
 -- whether GROUP BY, DISTINCT and the set operations but UNION ALL take the type: the comparable ones
 abbrev pub groupable : SqlType → Bool
 groupable = comparable

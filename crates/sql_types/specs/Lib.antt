@@ -1,9 +1,14 @@
 pub mod Fits
 pub mod Same
+pub mod SameValue
 pub mod Before
+pub mod Nulls
 pub mod Comparable
 pub mod SameType
+pub mod Sorting
 pub mod Outcome
+pub mod TypeText
+pub mod Calendar
 pub mod Logic
 pub mod Joined
 pub mod Parted

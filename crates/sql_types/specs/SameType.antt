@@ -36,3 +36,10 @@ same_type_layer _ _ = false
 -- whether two types are the same
 unfoldable pub same_type : SqlType → SqlType → Bool
 same_type = fold-SqlType (SqlType → Bool) (λ x y. same_type_layer x (out-SqlType y))
+
+-- as many fields, each with the same name and type
+abbrev pub same_fields_of : List (Named SqlType) → List (Named SqlType) → Bool
+same_fields_of [] [] = true
+same_fields_of [] (g ∷ gs) = false
+same_fields_of (f ∷ fs) [] = false
+same_fields_of (f ∷ fs) (g ∷ gs) = same_label f.name g.name && (same_type f.ty g.ty && same_fields_of fs gs)

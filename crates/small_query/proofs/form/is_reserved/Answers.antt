@@ -1,8 +1,8 @@
 use denote.Enum.Bare.{same_true, true_same}
 use Rattle.std.proofs.Common.{◌≡◌, sym, ◌∙◌, ap}
 use Rattle.sql_ast.specs.declared.token.Lexeme.TheVariants as lexeme
-use Rattle.sql_ast.specs.declared.words.Reserved.{Reserved}
-use Rattle.sql_ast.specs.contracts.words.Reserved.{the_type}
+use Rattle.sql_names.specs.declared.words.Reserved.{Reserved}
+use Rattle.sql_names.specs.contracts.words.Reserved.{the_type}
 use Rattle.small_query.proofs.form.is_reserved.Goals as goal
 
 pub returns-in-Reserved : goal.returns-in-Reserved

@@ -2,7 +2,7 @@
 use Rattle.std.proofs.Common.{◌++◌, List, refl, ap, ◌∙◌, arith}
 use Rattle.sql_types.specs.declared.value.Value.{Value}
 use Rattle.sql_ast.specs.Rows.{row_text, rows_lines}
-use Rattle.sql_ast.proofs.Written.{InPieces, wrote_more}
+use Rattle.sql_names.proofs.Written.{InPieces, wrote_more}
 use Rattle.sql_ast.proofs.answer_text.write_lines.Goals as goal
 
 lines_in_pieces : InPieces rows_lines row_text

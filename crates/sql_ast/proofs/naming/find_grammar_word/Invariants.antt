@@ -1,5 +1,5 @@
 use Rattle.std.proofs.Common.{◌≡◌, length, map}
-use Rattle.sql_ast.specs.Words.{find_word}
+use Rattle.sql_names.specs.Words.{find_word}
 use Rattle.sql_ast.proofs.naming.find_grammar_word.Given as goal
 
 abbrev pub invariant-entries : goal.invariant-entries

@@ -1,0 +1,4 @@
+pub mod Coercions
+pub mod Supertypes
+pub mod Numerals
+pub mod Casts

@@ -1,0 +1,3 @@
+mod Widths
+mod ArgumentLaws
+pub mod FitLaws
