@@ -1,1 +1,5 @@
 mod Examples
+pub mod ValueLaws
+pub mod SearchLaws
+pub mod CharLaws
+pub mod RowLaws
