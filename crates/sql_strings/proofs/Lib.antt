@@ -2,4 +2,4 @@ mod Examples
 pub mod ValueLaws
 pub mod SearchLaws
 pub mod CharLaws
-pub mod RowLaws
+pub mod PieceLaws

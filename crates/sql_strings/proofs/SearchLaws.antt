@@ -1,6 +1,8 @@
 -- Where a part stands in a text: what `begins_with`, `first_place` and `pieces` say, by the texts before and behind.
-use Rattle.std.proofs.Common.{◌≡◌, ℕ, zero, suc, ◌+◌, ◌-◌, ◌<◌, ◌≤◌, Bool, true, false, ◌&&◌, List, [], ◌∷◌, ◌++◌, length, reverse, take, drop, Option, Some, None, if◌then◌else◌, refl, ap, sym, ◌∙◌, subst, arith, eqb, append_assoc}
-use Rattle.std.proofs.lemmas.List.{append-nil, reverse-append, reverse-reverse, length-append, length-take}
+use Rattle.std.proofs.Common.{◌⊎◌, inl, inr, get_or, ◌≡◌, ℕ, zero, suc, ◌+◌, ◌-◌, ◌<◌, ◌≤◌, Bool, true, false, ◌&&◌, List, [], ◌∷◌, ◌++◌, length, reverse, take, drop, Option, Some, None, if◌then◌else◌, refl, ap, sym, ◌∙◌, subst, arith, eqb, append_assoc}
+use Rattle.std.proofs.lemmas.List.{reverse-append, reverse-reverse, length-append, length-take, length-drop, length-take-le, take-append-drop, drop-drop, ext_get_or, get_or-take, get_or-drop, get_or-append-add, get_or_append_left}
+use Rattle.std.proofs.lemmas.Bool.{cases_lt}
+use Rattle.memchr.specs.Find.{OccursAt, FindsNeedle}
 use Rattle.std.proofs.lemmas.Bool.Decides.{Decides-eqb}
 use Rattle.std.proofs.lemmas.Slice.Eq.{starts_is, ends_is}
 use Rattle.std.specs.List.{starts_with}
@@ -126,3 +128,58 @@ bytes-end p s b is =
     same-test b (ends_with p s)
         (λ h. ap (ends_with p) (says.0 h) ∙ ends-append (take (length s - length p) s) p)
         (λ h. let f = ends-split p s h in says.1 f.0 f.1)
+
+-- the part stands in the text at a place of bytes
+occurs-split : (xs part : List ℕ) (k : ℕ) → OccursAt xs part k → xs ≡ take k xs ++ (part ++ drop (k + length part) xs)
+occurs-split xs part k at =
+    let fits = at.fits in
+    let size : length (take (length part) (drop k xs)) ≡ length part = omega (arith, fits, length-take (length part) (drop k xs), length-drop k xs) in
+    let same : take (length part) (drop k xs) ≡ part =
+        ext_get_or 0 (take (length part) (drop k xs)) part size
+            (λ i less. let inside : i < length part = omega (arith, less, size) in get_or-take (length part) (drop k xs) i 0 inside ∙ get_or-drop k xs i 0 ∙ at.reads i inside) in
+    sym (take-append-drop k xs)
+    ∙ ap (λ t. take k xs ++ t) (sym (take-append-drop (length part) (drop k xs)) ∙ ap (λ t. t ++ drop (length part) (drop k xs)) same ∙ ap (λ t. part ++ t) (drop-drop (length part) k xs))
+
+split-occurs : (xs part u v : List ℕ) → xs ≡ u ++ (part ++ v) → OccursAt xs part (length u)
+split-occurs xs part u v is = record {
+  fits = omega (arith, ap length is, length-append u (part ++ v), length-append part v);
+  reads = λ j less. ap (λ t. get_or t (length u + j) 0) is ∙ get_or-append-add u (part ++ v) j 0 ∙ get_or_append_left part v 0 j less;
+}
+
+not-occurs : (xs part : List ℕ) → FindsNeedle xs part 0 None → Absent part xs
+not-occurs xs part lacks u v is =
+    let at = split-occurs xs part u v is in
+    let fits = at.fits in
+    let within : length u < length xs + 1 = omega (arith, fits) in
+    lacks (length u) (omega arith) within at
+
+-- a part that is found stands at the earliest place
+found : (xs part : List ℕ) (k : ℕ) → FindsNeedle xs part 0 (Some k) → (xs ≡ take k xs ++ (part ++ drop (k + length part) xs)) × Earliest part (take k xs) (drop (k + length part) xs) × (length (take k xs) ≡ k)
+found xs part k (first, at) =
+    let whole = occurs-split xs part k at in
+    let fits = at.fits in
+    let size : length (take k xs) ≡ k = length-take-le k xs (omega (arith, fits)) in
+    (whole, (λ u v is. earliest u v (whole ∙ is) size (cases_lt (length u) k)), size)
+  where
+    earliest : (u v : List ℕ) → xs ≡ u ++ (part ++ v) → length (take k xs) ≡ k → (length u < k) ⊎ (k ≤ length u) → length (take k xs) ≤ length u
+    earliest u v is size (inl less) = absurd (first.before (length u) (omega arith) less (split-occurs xs part u v is))
+    earliest u v is size (inr more) = omega (arith, size, more)
+
+pub bytes-place-some : (xs part : List ℕ) (k : ℕ) → FindsNeedle xs part 0 (Some k) → k + 1 ≡ place_of (first_place part xs)
+bytes-place-some xs part k finds =
+    let at = found xs part k finds in
+    let is : first_place part xs ≡ Some k = ap (first_place part) at.0 ∙ place-some part (take k xs) (drop (k + length part) xs) at.1 ∙ ap Some at.2 in
+    rw is (omega arith)
+
+pub bytes-place-none : (xs part : List ℕ) → FindsNeedle xs part 0 None → 0 ≡ place_of (first_place part xs)
+bytes-place-none xs part lacks = rw (place-none part xs (not-occurs xs part lacks)) refl
+
+pub bytes-uncut : (separator xs : List ℕ) → FindsNeedle xs separator 0 None → pieces separator xs ≡ xs ∷ []
+bytes-uncut separator xs lacks = pieces-none separator xs (not-occurs xs separator lacks)
+
+pub bytes-cut : (separator xs : List ℕ) (k : ℕ) → 0 < length separator → FindsNeedle xs separator 0 (Some k)
+    → pieces separator xs ≡ take k xs ∷ pieces separator (drop (k + length separator) xs)
+bytes-cut [] xs k some finds = absurd (omega (arith, some))
+bytes-cut (s ∷ ss) xs k some finds =
+    let at = found xs (s ∷ ss) k finds in
+    ap (pieces (s ∷ ss)) at.0 ∙ pieces-some s ss (take k xs) (drop (k + length (s ∷ ss)) xs) at.1

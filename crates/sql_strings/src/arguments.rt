@@ -1,12 +1,16 @@
-//! What the arguments of a call say.
-ghost use Rattle.std.specs.Prelude.{◌≡◌, ℕ, true};
+//! What the arguments of a call say, and the values that calls make.
+ghost use Rattle.std.specs.Prelude.{◌≡◌, ℕ, pos, negsuc, true, IfOk, MatchResult};
+ghost use Rattle.std.specs.Str.{chars};
 ghost use Rattle.sql_types.specs.declared.value.Value.{out-Value};
+ghost use Rattle.sql_types.specs.declared.value.Value.TheVariants as value;
 ghost use Rattle.sql_types.specs.declared.sql_type.SqlType.TheVariants as types;
 ghost use Rattle.sql_types.specs.Before.{is_null};
 ghost use Rattle.sql_types.specs.Fits.{fits};
 ghost use Rattle.sql_types.specs.Takes as takes;
+ghost use Rattle.sql_strings.specs.Rows as rows;
 
-use sql_types::Value;
+use sql_types::{FaultKind, Items, Text, Value};
+use std::alloc::{AllocError, Global};
 
 /// Whether some argument is NULL.
 pub(crate) fn some_null(values: &[Value]) -> bool
@@ -51,6 +55,17 @@ pub(crate) fn bytes_of(value: &Value) -> &[u8]
     }
 }
 
+/// The elements of an ARRAY<STRING>. NULL has none.
+pub(crate) fn elements_of(value: &Value) -> &[Value]
+    requires { fits (types.Array types.Text) value.now ≡ true }
+    ensures { result.now ≡ takes.elements value.now }
+{
+    match value {
+        Value::Array(elements) => elements.as_slice(),
+        _ => &[],
+    }
+}
+
 /// The number of an INT64. That of NULL is 0.
 pub(crate) fn number_of(value: &Value) -> i64
     requires { fits types.Int64 value.now ≡ true }
@@ -60,4 +75,28 @@ pub(crate) fn number_of(value: &Value) -> i64
         Value::Int(number) => *number,
         _ => 0,
     }
+}
+
+/// A number of symbols or of times. A negative one is the fault ARGUMENT.
+pub(crate) fn as_count(number: i64) -> Result<usize, FaultKind>
+    ensures { MatchResult result (λ n. number ≡ pos n) (λ f. (k : ℕ) × (number ≡ negsuc k) × (f ≡ FaultKind.Argument)) }
+{
+    if number < 0 {
+        return Err(FaultKind::Argument);
+    }
+    Ok(number as usize)
+}
+
+/// A STRING of this text.
+pub(crate) fn string(alloc: Global, text: &str) -> Result<Value, AllocError>
+    ensures { IfOk result (λ v. v ≡ rows.string (chars text.now)) }
+{
+    Ok(Value::Text(Text::copy_of(alloc, text)?))
+}
+
+/// A BYTES of these bytes.
+pub(crate) fn bytes(alloc: Global, content: &[u8]) -> Result<Value, AllocError>
+    ensures { IfOk result (λ v. v ≡ value.Bytes content.now) }
+{
+    Ok(Value::Bytes(Items::from_slice(alloc, content)?))
 }

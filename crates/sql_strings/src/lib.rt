@@ -2,10 +2,20 @@
 #![tactic(auto)]
 
 mod arguments;
+mod characters;
 pub mod lengths;
-mod parts;
+pub mod parts;
 pub mod pattern;
+pub mod places;
+pub mod replace;
+pub mod reverse;
 mod search;
+pub mod split;
 
-pub use lengths::length_string;
+pub use lengths::{byte_length_bytes, byte_length_string, char_length_string, length_bytes, length_string};
+pub use parts::{substr_bytes_int64_int64, substr_string_int64_int64};
 pub use pattern::like;
+pub use places::{ends_with_bytes_bytes, ends_with_string_string, starts_with_bytes_bytes, starts_with_string_string, strpos_bytes_bytes, strpos_string_string};
+pub use replace::{replace_bytes_bytes_bytes, replace_string_string_string};
+pub use reverse::{reverse_bytes, reverse_string};
+pub use split::split_string_string;
