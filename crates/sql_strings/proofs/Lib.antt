@@ -3,3 +3,4 @@ pub mod ValueLaws
 pub mod SearchLaws
 pub mod CharLaws
 pub mod PieceLaws
+pub mod PatternLaws
