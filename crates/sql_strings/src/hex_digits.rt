@@ -1,6 +1,6 @@
 //! TO_HEX and FROM_HEX.
-ghost use Rattle.std.specs.Prelude.{◌≡◌, [], ◌∷◌, true, IfOk, option_map};
-ghost use Rattle.std.specs.Str.{chars};
+ghost use Rattle.std.specs.Prelude.{◌≡◌, ◌<◌, ℕ, List, [], ◌∷◌, length, true, IfOk, IfSome, MatchOption, Some, None, option_map};
+ghost use Rattle.std.specs.Str.{IsUtf8, chars};
 ghost use Rattle.sql_types.specs.declared.sql_type.SqlType.TheVariants as types;
 ghost use Rattle.sql_types.specs.Outcome.{Answers, just};
 ghost use Rattle.sql_types.specs.Takes.{fits_types};
@@ -50,30 +50,58 @@ fn to_hex(alloc: Global, content: &[u8]) -> Result<Text, AllocError>
 fn from_hex(alloc: Global, text: &str) -> Result<Value, CallFault>
     ensures { Answers (just (bytes_or_fault (digits.from_hex (chars text.now)))) result }
 {
-    let is_odd = count_characters(text) % 2 == 1;
-    let mut upper = if is_odd { Some(0) } else { None };
     let mut made = Items::new(alloc);
     let mut rest = text;
-    while let Some((character, behind)) = first_character(rest) {
-        let digit = match digit_value(character) {
-            Some(digit) => digit,
-            None => return Err(CallFault::Fault(FaultKind::Argument)),
-        };
-        upper = match upper {
-            None => Some(digit),
-            Some(high) => {
-                made.push(16 * high + digit)?;
-                None
+    let mut is_odd = count_characters(text) % 2 == 1;
+    while !rest.is_empty() {
+        match first_byte(rest, is_odd) {
+            Some((byte, behind)) => {
+                made.push(byte)?;
+                rest = behind;
             }
-        };
-        rest = behind;
+            None => return Err(CallFault::Fault(FaultKind::Argument)),
+        }
+        is_odd = false;
     }
     Ok(Value::Bytes(made))
 }
 
+/// The byte of the first two digits, or of the first one where their number is odd, and the text behind. None where one of
+/// them is no digit, or the second is missing.
+fn first_byte(text: &str, is_odd: bool) -> Option<(u8, &str)>
+    requires { 0 < length text.now }
+    ensures bytes { MatchOption result
+        (digits.pairs_of (digits.padded is_odd (chars text.now)) ≡ None)
+        (λ r. digits.pairs_of (digits.padded is_odd (chars text.now)) ≡ option_map (λ bytes. r.0 ∷ bytes) (digits.pairs_of (chars r.1.now))) }
+    ensures shorter { IfSome result (λ r. length r.1.now < length text.now) }
+    ensures utf8 { IfSome result (λ r. IsUtf8 r.1.now) }
+{
+    if is_odd {
+        return first_digit(text);
+    }
+    let (high, behind) = first_digit(text)?;
+    let (low, rest) = first_digit(behind)?;
+    Some((16 * high + low, rest))
+}
+
+/// The value of the first character, where it is a digit, and the text behind.
+fn first_digit(text: &str) -> Option<(u8, &str)>
+    ensures digit { MatchOption result
+        ((c : ℕ) (cs : List ℕ) → chars text.now ≡ c ∷ cs → digits.digit_value c ≡ None)
+        (λ r. (c : ℕ) × (chars text.now ≡ c ∷ chars r.1.now) × (digits.digit_value c ≡ Some r.0)) }
+    ensures small { IfSome result (λ r. r.0 < 16) }
+    ensures shorter { IfSome result (λ r. length r.1.now < length text.now) }
+    ensures utf8 { IfSome result (λ r. IsUtf8 r.1.now) }
+{
+    let (character, behind) = first_character(text)?;
+    let value = digit_value(character)?;
+    Some((value, behind))
+}
+
 /// The value of a digit in base 16, in either case.
 fn digit_value(character: char) -> Option<u8>
-    ensures { result ≡ digits.digit_value character }
+    ensures value { result ≡ digits.digit_value character }
+    ensures small { IfSome result (λ value. value < 16) }
 {
     match character {
         '0'..='9' => Some(character as u8 - b'0'),
