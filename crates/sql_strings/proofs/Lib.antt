@@ -7,3 +7,4 @@ pub mod PatternLaws
 pub mod TrimLaws
 pub mod HexLaws
 pub mod RepeatLaws
+pub mod JoinLaws

@@ -3,13 +3,13 @@ use Rattle.std.proofs.Common.{◌≡◌, ℕ, zero, suc, ◌+◌, List, [], ◌�
 use Rattle.std.proofs.lemmas.List.{append-nil}
 use Rattle.sql_strings.specs.Texts.{repeated}
 
-pub repeated-push : (n : ℕ) (xs : List ℕ) → repeated n xs ++ xs ≡ repeated (n + 1) xs
-repeated-push zero xs = sym (append-nil xs)
-repeated-push (suc n) xs =
+pub repeated_push : (n : ℕ) (xs : List ℕ) → repeated n xs ++ xs ≡ repeated (n + 1) xs
+repeated_push zero xs = sym (append-nil xs)
+repeated_push (suc n) xs =
     let one : suc n + 1 ≡ suc (n + 1) = omega arith in
-    append_assoc xs (repeated n xs) xs ∙ ap (λ t. xs ++ t) (repeated-push n xs) ∙ ap (λ k. repeated k xs) (sym one)
+    append_assoc xs (repeated n xs) xs ∙ ap (λ t. xs ++ t) (repeated_push n xs) ∙ ap (λ k. repeated k xs) (sym one)
 
-pub repeated-none : (n : ℕ) (xs : List ℕ) → length xs ≡ 0 → xs ≡ repeated n xs
-repeated-none n (x ∷ xs) none = absurd (omega (arith, none))
-repeated-none zero [] none = refl
-repeated-none (suc n) [] none = repeated-none n [] refl
+pub repeated_none : (n : ℕ) (xs : List ℕ) → length xs ≡ 0 → xs ≡ repeated n xs
+repeated_none n (x ∷ xs) none = absurd (omega (arith, none))
+repeated_none zero [] none = refl
+repeated_none (suc n) [] none = repeated_none n [] refl

@@ -1,5 +1,5 @@
 //! ARRAY_TO_STRING.
-ghost use Rattle.std.specs.Prelude.{◌≡◌, [], ◌∷◌, true, IfOk, Option, Some, None, if◌then◌else◌};
+ghost use Rattle.std.specs.Prelude.{◌≡◌, [], ◌∷◌, ◌++◌, true, IfOk, OnOk, string_bytes, Option, Some, None, if◌then◌else◌};
 ghost use Rattle.std.specs.List.{list_all};
 ghost use Rattle.sql_types.specs.declared.sql_type.SqlType.TheVariants as types;
 ghost use Rattle.sql_types.specs.declared.value.Value.{out-Value};
@@ -55,15 +55,24 @@ fn joined_elements(
         if is_null(element) && !keeps_nulls {
             continue;
         }
-        if !is_first {
-            made.push_str(separator)?;
-        }
+        push_between(&mut made, separator, is_first)?;
         made.push_str(element_text(element, null_text))?;
         is_first = false;
     }
     Ok(Text::from_string(made))
 }
 
+/// Appends the separator, unless the element that comes is the first.
+fn push_between(made: &mut String, separator: &str, is_first: bool) -> Result<(), AllocError>
+    ensures { OnOk result (string_bytes made.new ≡ string_bytes made.old ++ (if is_first then [] else separator.now)) }
+{
+    if is_first {
+        return Ok(());
+    }
+    made.push_str(separator)
+}
+
+/// The text of an element, where it is put.
 fn element_text<'a>(element: &'a Value, null_text: &'a str) -> &'a str
     requires { fits types.Text element.now ≡ true }
     ensures { result.now ≡ (if is_null (out-Value element.now) then null_text.now else content element.now) }

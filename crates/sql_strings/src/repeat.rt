@@ -65,6 +65,7 @@ fn is_too_long(count: usize, length: usize) -> bool
     (count as u64).saturating_mul(length as u64) > LIMIT
 }
 
+#[tactic(auto, using(crate::proofs::RepeatLaws::repeated_push))]
 fn repeated_text(alloc: Global, text: &str, count: usize) -> Result<Text, AllocError>
     ensures { IfOk result (λ made. made ≡ repeated count text.now) }
 {
@@ -78,13 +79,14 @@ fn repeated_text(alloc: Global, text: &str, count: usize) -> Result<Text, AllocE
     Ok(Text::from_string(made))
 }
 
+#[tactic(auto, using(crate::proofs::RepeatLaws::repeated_push))]
 fn repeated_bytes(alloc: Global, content: &[u8], count: usize) -> Result<Bytes, AllocError>
     ensures { IfOk result (λ made. made ≡ repeated count content.now) }
 {
-    let mut made = Vec::new(alloc);
     if content.is_empty() {
-        return Ok(Items::from_vec(made));
+        return Items::from_slice(alloc, content);
     }
+    let mut made = Vec::new(alloc);
     for _ in 0..count {
         made.extend_from_slice(content)?;
     }
