@@ -1,14 +1,15 @@
 -- What values that fit a type say.
 use Rattle.std.proofs.Common.{◌≡◌, ℕ, Bool, true, false, List, [], ◌∷◌, refl, ap, sym, ◌∙◌, subst}
 use Rattle.std.specs.Prelude.{ℤ, pos}
+use Rattle.std.specs.List.{list_all}
 use Rattle.sql_types.specs.declared.sql_type.SqlType.{SqlType, out-SqlType, map-SqlType, out-roll-SqlType}
 use Rattle.sql_types.specs.declared.sql_type.SqlType.TheVariants as types
 use Rattle.sql_types.specs.declared.sql_type.SqlType.TheOpen as t
-use Rattle.sql_types.specs.declared.value.Value.{Value, roll-Value, out-Value, roll-out-Value}
+use Rattle.sql_types.specs.declared.value.Value.{Value, roll-Value, out-Value, roll-out-Value, out-roll-Value}
 use Rattle.sql_types.specs.declared.value.Value.TheVariants as value
 use Rattle.sql_types.specs.declared.value.Value.TheOpen as v
 use Rattle.sql_types.specs.Fits.{fits, fits_layer}
-use Rattle.sql_types.specs.Takes.{content, content_layer, number, number_layer}
+use Rattle.sql_types.specs.Takes.{content, content_layer, number, number_layer, elements, elements_layer}
 use Rattle.sql_types.proofs.Opens.{fits-opens}
 
 -- what a layer of a type takes
@@ -72,3 +73,24 @@ no-number x (v.Struct xs) is fit other = cc
 
 pub null-number : (x : Value) → fits types.Int64 x ≡ true → ((n : ℤ) → x ≡ value.Int n → ⊥) → pos 0 ≡ number x
 null-number x fit other = no-number x (out-Value x) refl (taken types.Int64 t.Int64 x out-Int64 fit) other
+
+-- the elements of a value of ARRAY<STRING> fit STRING
+array-layer : (y : v.Value-F Value) → fits_layer (t.Array (fits types.Text)) y ≡ true → list_all (fits types.Text) (elements_layer y) ≡ true
+array-layer v.Null fit = refl
+array-layer (v.Bool b) fit = cc
+array-layer (v.Int n) fit = cc
+array-layer (v.Uint n) fit = cc
+array-layer (v.Text text) fit = cc
+array-layer (v.Bytes bytes) fit = cc
+array-layer (v.Date day) fit = cc
+array-layer (v.Array xs) fit = fit
+array-layer (v.Struct xs) fit = cc
+
+out-Array : out-SqlType (types.Array types.Text) ≡ t.Array types.Text
+out-Array = ap out-SqlType (sym (types.rolls-Array types.Text)) ∙ out-roll-SqlType (t.Array types.Text)
+
+pub elements-fit : (x : Value) → fits (types.Array types.Text) x ≡ true → list_all (fits types.Text) (elements x) ≡ true
+elements-fit x fit = array-layer (out-Value x) (taken (types.Array types.Text) (t.Array types.Text) x out-Array fit)
+
+pub array-elements : (x : Value) (xs : List Value) → x ≡ value.Array xs → elements x ≡ xs
+array-elements x xs is = ap elements is ∙ ap elements_layer (ap out-Value (sym (value.rolls-Array xs)) ∙ out-roll-Value (v.Array xs))

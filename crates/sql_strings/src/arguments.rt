@@ -1,5 +1,6 @@
 //! What the arguments of a call say, and the values that calls make.
 ghost use Rattle.std.specs.Prelude.{◌≡◌, ℕ, pos, negsuc, true, IfOk, MatchResult};
+ghost use Rattle.std.specs.List.{list_all};
 ghost use Rattle.std.specs.Str.{chars};
 ghost use Rattle.sql_types.specs.declared.value.Value.{out-Value};
 ghost use Rattle.sql_types.specs.declared.value.Value.TheVariants as value;
@@ -58,7 +59,8 @@ pub(crate) fn bytes_of(value: &Value) -> &[u8]
 /// The elements of an ARRAY<STRING>. NULL has none.
 pub(crate) fn elements_of(value: &Value) -> &[Value]
     requires { fits (types.Array types.Text) value.now ≡ true }
-    ensures { result.now ≡ takes.elements value.now }
+    ensures value { result.now ≡ takes.elements value.now }
+    ensures fit { list_all (fits types.Text) result.now ≡ true }
 {
     match value {
         Value::Array(elements) => elements.as_slice(),
