@@ -1,16 +1,16 @@
 -- What a text's bytes say of its characters.
-use Rattle.std.proofs.Common.{◌⊎◌, inl, inr, ◌≡◌, ℕ, zero, suc, ◌+◌, ◌-◌, ◌<◌, ◌≤◌, Bool, true, false, List, [], ◌∷◌, ◌++◌, length, reverse, take, drop, map, Option, Some, None, refl, ap, sym, ◌∙◌, subst, arith, append_assoc}
+use Rattle.std.proofs.Common.{◌⊎◌, inl, inr, ◌≡◌, ℕ, zero, suc, ◌+◌, ◌-◌, ◌<◌, ◌≤◌, Bool, true, false, List, [], ◌∷◌, ◌++◌, length, take, drop, Option, Some, None, refl, ap, sym, ◌∙◌, subst, arith, append_assoc}
 use Rattle.std.specs.Prelude.{MatchOption, IfSome}
 use denote.Ref.{Bor}
 use Rattle.std.specs.Bool.{MatchBool}
-use Rattle.std.specs.Char.{encode_utf8, len_utf8}
+use Rattle.std.specs.Char.{encode_utf8}
 use Rattle.std.specs.Str.{IsUtf8, IsCharBoundary, chars, encode_utf8_all}
-use Rattle.std.specs.Str.Pattern.{FindsText, FindsTextPrefix, FindsTextSuffix, LacksTextAt, HasTextAt, SplitsAroundMatch, HasPrefixMatch, HasSuffixMatch, MatchBeginsAt, SplitsAroundMatch}
-use Rattle.std.proofs.lemmas.Str.{encodes-append, encodes-chars, chars-append, chars-nil, encodes_same, IsUtf8-append, IsUtf8-take, IsUtf8-drop, IsCharBoundary-from_drop, IsCharBoundary-at_seam, length-encode, len_utf8_bounds, length-le-encodes, IsUtf8-past_char, chars_past_char}
-use Rattle.std.proofs.lemmas.List.{append-nil, length-append, length-drop, drop_at, take_at, append_cancel_right, take-append-drop, length-take-le, drop_all}
+use Rattle.std.specs.Str.Pattern.{FindsText, FindsTextPrefix, FindsTextSuffix, LacksTextAt, SplitsAroundMatch, HasPrefixMatch, HasSuffixMatch, MatchBeginsAt, SplitsAroundMatch}
+use Rattle.std.proofs.lemmas.Str.{encodes-append, encodes-chars, chars-append, chars-nil, encodes_same, IsUtf8-append, IsUtf8-take, IsUtf8-drop, IsCharBoundary-from_drop, IsCharBoundary-at_seam, length-encode, len_utf8_bounds, length-le-encodes}
+use Rattle.std.proofs.lemmas.List.{append-nil, length-append, drop_at, take_at, append_cancel_right, take-append-drop, length-take-le}
 use Rattle.std.proofs.lemmas.Bool.{cases_lt}
 use Rattle.sql_strings.specs.Texts.{begins_with, ends_with, first_place, place_of, pieces}
-use Rattle.sql_strings.proofs.SearchLaws.{same-test, begins-append, begins-split, ends-append, ends-split, Absent, Earliest, place-none, place-some, pieces-none, pieces-some}
+use Rattle.sql_strings.proofs.SearchLaws.{begins-append, begins-split, ends-append, ends-split, Absent, Earliest, place-none, place-some, pieces-none, pieces-some}
 
 -- ---- one text in another
 
@@ -52,13 +52,14 @@ chars-earliest n a b un ua ub lacks u v is = earliest (cases_lt (length u) (leng
   where
     whole : a ++ (n ++ b) ≡ encode_utf8_all u ++ (n ++ encode_utf8_all v)
     whole = encodes-three (a ++ (n ++ b)) n u v (IsUtf8-append a (n ++ b) ua (IsUtf8-append n b un ub)) un (chars-three a n b ua un ∙ is)
+
     earliest : (length u < length (chars a)) ⊎ (length (chars a) ≤ length u) → length (chars a) ≤ length u
     earliest (inr more) = more
     earliest (inl less) =
         let fewer = shorter u (chars a) (chars n ++ v) (chars n ++ chars b) (sym is) less in
         let place : length (encode_utf8_all u) < length a = omega (arith, fewer, ap length (encodes-chars a ua)) in
         absurd (lacks (length (encode_utf8_all u)) place (encode_utf8_all v)
-            (ap (drop (length (encode_utf8_all u))) whole ∙ drop_at (encode_utf8_all u) (n ++ encode_utf8_all v) (length (encode_utf8_all u)) refl))
+        (ap (drop (length (encode_utf8_all u))) whole ∙ drop_at (encode_utf8_all u) (n ++ encode_utf8_all v) (length (encode_utf8_all u)) refl))
 
 -- ---- the last character, and the first ones
 
@@ -69,8 +70,8 @@ chars-none (b ∷ s) none = absurd (omega (arith, none))
 pub chars-last : (s front : List ℕ) (c : ℕ) → IsUtf8 s → IsUtf8 front → s ≡ front ++ encode_utf8 c → chars s ≡ chars front ++ c ∷ []
 chars-last s front c us uf is =
     encodes_same (chars s) (chars front ++ c ∷ [])
-        (encodes-chars s us ∙ is ∙ ap (λ t. t ++ encode_utf8 c) (sym (encodes-chars front uf)) ∙ ap (λ t. encode_utf8_all (chars front) ++ t) (sym (append-nil (encode_utf8 c)))
-        ∙ sym (encodes-append (chars front) (c ∷ [])))
+    (encodes-chars s us ∙ is ∙ ap (λ t. t ++ encode_utf8 c) (sym (encodes-chars front uf)) ∙ ap (λ t. encode_utf8_all (chars front) ++ t) (sym (append-nil (encode_utf8 c)))
+    ∙ sym (encodes-append (chars front) (c ∷ [])))
 
 -- what stands before the rest of a text's characters
 pub chars-front : (s front rest : List ℕ) (n : ℕ) → IsUtf8 s → IsUtf8 rest → s ≡ front ++ rest → chars rest ≡ drop n (chars s) → chars (take (length s - length rest) s) ≡ take n (chars s)
@@ -119,7 +120,7 @@ text-ends p s false up us lacks = refuted (ends_with (chars p) (chars s)) refl
     refuted true is =
         let f = ends-split (chars p) (chars s) is in
         absurd (lacks (encode_utf8_all f.0)
-            (sym (encodes-chars s us) ∙ ap encode_utf8_all f.1 ∙ encodes-append f.0 (chars p) ∙ ap (λ t. encode_utf8_all f.0 ++ t) (encodes-chars p up)))
+        (sym (encodes-chars s us) ∙ ap encode_utf8_all f.1 ∙ encodes-append f.0 (chars p) ∙ ap (λ t. encode_utf8_all f.0 ++ t) (encodes-chars p up)))
 
 -- the place of a text is that of its characters
 pub text-place : (n s : List ℕ) (r : Option ℕ) → IsUtf8 n → IsUtf8 s → MatchOption r (FindsText n s None) (MatchBeginsAt (FindsText n) s)
@@ -162,7 +163,7 @@ text-cut n s front back un us some (i, j, (earlier, at), isfront, isback, order,
     let earliest : Earliest (chars n) (chars front) (chars back) = chars-earliest n front back un parts.0 parts.1 lacks in
     ap (pieces (chars n)) (ap chars whole ∙ chars-three front n back parts.0 un)
     ∙ subst (λ t. pieces t (chars front ++ (t ++ chars back)) ≡ chars front ∷ pieces t (chars back)) (sym first.2)
-        (pieces-some first.0 first.1 (chars front) (chars back) (subst (λ t. Earliest t (chars front) (chars back)) first.2 earliest))
+    (pieces-some first.0 first.1 (chars front) (chars back) (subst (λ t. Earliest t (chars front) (chars back)) first.2 earliest))
 
 pub text-uncut : (n s : List ℕ) → IsUtf8 n → IsUtf8 s → FindsText n s None → pieces (chars n) (chars s) ≡ chars s ∷ []
 text-uncut n s un us lacks = pieces-none (chars n) (chars s) (chars-absent n s un us lacks)

@@ -1,14 +1,11 @@
 -- Bytes in digits of base 16, byte by byte.
-use Rattle.std.proofs.Common.{◌≡◌, ℕ, zero, suc, ◌+◌, ◌*◌, ◌/◌, ◌%◌, ◌<◌, ◌^◌, Bool, true, false, List, [], ◌∷◌, ◌++◌, length, get_or, Option, Some, None, Result, Ok, Err, if◌then◌else◌, refl, ap, sym, ◌∙◌, arith, eqb, append_assoc}
+use Rattle.std.proofs.Common.{◌≡◌, ℕ, zero, suc, ◌+◌, ◌*◌, ◌/◌, ◌%◌, ◌<◌, Bool, true, false, List, [], ◌∷◌, ◌++◌, length, get_or, Option, Some, None, Ok, Err, if◌then◌else◌, refl, ap, sym, ◌∙◌, arith, eqb, append_assoc}
 use Rattle.std.specs.Prelude.{MatchOption, option_map, slice_index}
 use denote.Ref.{Bor}
 use Rattle.std.specs.Str.{IsUtf8, chars}
-use Rattle.std.proofs.lemmas.Grind.{common_steps}
 use Rattle.std.proofs.lemmas.List.{append-nil}
 use Rattle.hex.specs.Hex.{encode_with, encode_lower, lower_digits}
-use Rattle.sql_types.specs.declared.value.Value.{Value}
 use Rattle.sql_types.specs.declared.value.Value.TheVariants as value
-use Rattle.sql_types.specs.declared.fault.FaultKind.{FaultKind}
 use Rattle.sql_types.specs.declared.fault.FaultKind.TheVariants as fault
 use Rattle.sql_strings.specs.Hex.{digit_value, hex_digit, to_hex, with_byte, pairs_of, from_hex, padded}
 use Rattle.sql_strings.specs.Rows.{bytes_or_fault}
@@ -104,6 +101,7 @@ hex-start made digits is_odd none odd =
     same : (o : Option (List ℕ)) → option_map (λ bytes. [] ++ bytes) o ≡ o
     same None = refl
     same (Some bytes) = refl
+
     by : (n : ℕ) → n < 2 → pairs_of (padded (eqb n 1) digits) ≡ (if eqb n 0 then pairs_of digits else pairs_of (48 ∷ digits))
     by zero small = refl
     by (suc zero) small = refl
@@ -118,9 +116,6 @@ hex-more made now rest behind is_odd byte whole push first so_far =
     by : (o : Option (List ℕ)) → option_map (λ bytes. (made ++ byte ∷ []) ++ bytes) o ≡ option_map (λ bytes. made ++ bytes) (option_map (λ bytes. byte ∷ bytes) o)
     by None = refl
     by (Some bytes) = ap Some (append_assoc made (byte ∷ []) bytes)
-
-pub hex-not : (made digits : List ℕ) (whole : Option (List ℕ)) → pairs_of digits ≡ None → option_map (λ bytes. made ++ bytes) (pairs_of digits) ≡ whole → Err fault.Argument ≡ bytes_or_fault whole
-hex-not made digits whole none so_far = ap bytes_or_fault (ap (option_map (λ bytes. made ++ bytes)) (sym none) ∙ so_far)
 
 pub hex-end : (made rest : List ℕ) (is_odd : Bool) (whole : Option (List ℕ)) → length rest ≡ 0 → (is_odd ≡ true → 0 < length rest)
     → option_map (λ bytes. made ++ bytes) (pairs_of (padded is_odd (chars rest))) ≡ whole → Ok (value.Bytes made) ≡ bytes_or_fault whole

@@ -1,11 +1,10 @@
 -- Patterns: the test is the relation, and what a walk along a pattern may rest on.
-use Rattle.std.proofs.Common.{◌≡◌, ℕ, suc, ◌+◌, ◌<◌, ◌≤◌, Bool, true, false, ◌||◌, ◌&&◌, List, [], ◌∷◌, ◌++◌, length, Option, Some, None, Result, Ok, Err, if◌then◌else◌, refl, ap, sym, ◌∙◌, subst, arith, eqb, not, ◌⊎◌, inl, inr}
+use Rattle.std.proofs.Common.{◌≡◌, ℕ, ◌≤◌, Bool, true, false, ◌||◌, ◌&&◌, List, [], ◌∷◌, ◌++◌, length, Option, Some, None, Ok, if◌then◌else◌, refl, ap, sym, ◌∙◌, subst, arith, eqb, not, ◌⊎◌, inl, inr}
 use Rattle.std.specs.Prelude.{is_some, ◌↔◌}
 use Rattle.std.proofs.lemmas.Grind.{common_steps}
-use Rattle.sql_types.specs.declared.fault.FaultKind.TheVariants.{Pattern}
 use Rattle.sql_strings.specs.declared.pattern.PatternPart.{PatternPart}
 use Rattle.sql_strings.specs.declared.pattern.PatternPart.TheVariants as code
-use Rattle.sql_strings.specs.Patterns.{Part, any_text, any_symbol, this, said, with_part, part_of, parts, parts_behind, Matches, match_end, match_text, match_symbol, match_this, some_rest, first_passes, takes, is_end, matches, passes, like, like_by}
+use Rattle.sql_strings.specs.Patterns.{Part, any_text, any_symbol, this, said, with_part, part_of, parts, parts_behind, Matches, match_end, match_text, match_symbol, match_this, some_rest, takes, matches, passes, like, like_by}
 use Rattle.sql_strings.proofs.SearchLaws.{same-test}
 
 -- ---- the test and the relation
@@ -164,8 +163,10 @@ rest-at-text first o text xs anchored anywhere = same-test (some_rest (passes fi
     inner : (o : Option (List Part)) → some_rest (passes (with_part any_text o)) xs ≡ true → some_rest (passes o) xs ≡ true
     inner None h = let none = rest-for (passes (with_part any_text None)) xs h in cc
     inner (Some ps) h = rest-once (matches ps) xs h
+
     to : some_rest (passes first) text ≡ true → some_rest (passes o) xs ≡ true
     to h = inner o (anywhere h)
+
     from : some_rest (passes o) xs ≡ true → some_rest (passes first) text ≡ true
     from h = rest-here (passes first) text (anchored ∙ h)
 
@@ -182,7 +183,7 @@ pub walk-met-anywhere : (first now o : Option (List Part)) (text xs : List ℕ) 
     → some_rest (passes first) text ≡ some_rest (passes o) xs
 walk-met-anywhere first now o text xs p is at anchored anywhere =
     rest-at-text first o text xs (walk-met first now o text xs p is at anchored)
-        (λ h. subst (λ q. some_rest (passes q) xs ≡ true) (is ∙ ap (λ q. with_part (said q) o) at) (anywhere h))
+    (λ h. subst (λ q. some_rest (passes q) xs ≡ true) (is ∙ ap (λ q. with_part (said q) o) at) (anywhere h))
 
 pub walk-not : (first now o : Option (List Part)) (text xs : List ℕ) (p : PatternPart) → now ≡ with_part (said p) o → (p ≡ code.AnyText → ⊥)
     → ((x : ℕ) (ys : List ℕ) → xs ≡ x ∷ ys → takes (said p) x ≡ false) → passes first text ≡ passes now xs → passes first text ≡ false

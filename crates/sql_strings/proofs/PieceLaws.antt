@@ -1,11 +1,10 @@
 -- One more piece of a text that is put together.
-use Rattle.std.proofs.Common.{◌≡◌, ℕ, zero, suc, ◌+◌, ◌-◌, ◌<◌, Bool, true, false, List, [], ◌∷◌, ◌++◌, length, reverse, map, if◌then◌else◌, refl, ap, sym, ◌∙◌, arith, append_assoc}
+use Rattle.std.proofs.Common.{◌≡◌, ℕ, zero, suc, ◌-◌, ◌<◌, Bool, true, false, List, [], ◌∷◌, ◌++◌, length, reverse, map, if◌then◌else◌, refl, ap, sym, ◌∙◌, arith, append_assoc}
 use Rattle.std.specs.Char.{encode_utf8}
 use Rattle.std.specs.Str.{IsUtf8, chars, encode_utf8_all}
 use Rattle.std.proofs.lemmas.Str.{encodes-append, encodes-chars, chars-nil}
 use Rattle.std.proofs.lemmas.List.{append-nil, reverse-append}
 use Rattle.sql_types.specs.declared.value.Value.{Value}
-use Rattle.sql_types.specs.declared.value.Value.TheVariants as value
 use Rattle.sql_strings.specs.Texts.{begins_with, put_before, pieces_behind, pieces, singles, split_text, joined_by, continued_by, replaced}
 use Rattle.sql_strings.specs.Rows.{string}
 use Rattle.sql_strings.proofs.CharLaws.{some-chars, chars-none}
@@ -40,9 +39,6 @@ bytes-replaced made piece new old rest behind whole cut so_far =
     append_assoc (made ++ piece) new (joined_by new (pieces old behind)) ∙ append_assoc made piece (new ++ joined_by new (pieces old behind))
     ∙ ap (λ t. made ++ t) (sym (joined-cut new piece old behind) ∙ ap (joined_by new) (sym cut)) ∙ so_far
 
-pub bytes-replaced-last : (made new old rest whole : List ℕ) → pieces old rest ≡ rest ∷ [] → made ++ joined_by new (pieces old rest) ≡ whole → made ++ rest ≡ whole
-bytes-replaced-last made new old rest whole uncut so_far = ap (λ t. made ++ t) (sym (append-nil rest) ∙ ap (joined_by new) (sym uncut)) ∙ so_far
-
 pub bytes-replaced-first : (new old xs : List ℕ) → 0 < length old → joined_by new (pieces old xs) ≡ replaced old new xs
 bytes-replaced-first new [] xs some = absurd (omega (arith, some))
 bytes-replaced-first new (o ∷ old) xs some = refl
@@ -54,9 +50,9 @@ text-replaced made piece new old rest behind whole up un cut so_far =
     let more = joined_by (chars new) (pieces (chars old) (chars behind)) in
     append_assoc (made ++ piece) new (encode_utf8_all more) ∙ append_assoc made piece (new ++ encode_utf8_all more)
     ∙ ap (λ t. made ++ t)
-        (ap (λ t. piece ++ (t ++ encode_utf8_all more)) (sym (encodes-chars new un)) ∙ ap (λ t. t ++ (encode_utf8_all (chars new) ++ encode_utf8_all more)) (sym (encodes-chars piece up))
-        ∙ ap (λ t. encode_utf8_all (chars piece) ++ t) (sym (encodes-append (chars new) more)) ∙ sym (encodes-append (chars piece) (chars new ++ more))
-        ∙ ap encode_utf8_all (sym (joined-cut (chars new) (chars piece) (chars old) (chars behind)) ∙ ap (joined_by (chars new)) (sym cut)))
+    (ap (λ t. piece ++ (t ++ encode_utf8_all more)) (sym (encodes-chars new un)) ∙ ap (λ t. t ++ (encode_utf8_all (chars new) ++ encode_utf8_all more)) (sym (encodes-chars piece up))
+    ∙ ap (λ t. encode_utf8_all (chars piece) ++ t) (sym (encodes-append (chars new) more)) ∙ sym (encodes-append (chars piece) (chars new ++ more))
+    ∙ ap encode_utf8_all (sym (joined-cut (chars new) (chars piece) (chars old) (chars behind)) ∙ ap (joined_by (chars new)) (sym cut)))
     ∙ so_far
 
 pub text-replaced-last : (made new old rest whole : List ℕ) → IsUtf8 rest → pieces (chars old) (chars rest) ≡ chars rest ∷ []

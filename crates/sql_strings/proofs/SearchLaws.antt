@@ -1,5 +1,5 @@
 -- Where a part stands in a text: what `begins_with`, `first_place` and `pieces` say, by the texts before and behind.
-use Rattle.std.proofs.Common.{◌⊎◌, inl, inr, get_or, ◌≡◌, ℕ, zero, suc, ◌+◌, ◌-◌, ◌<◌, ◌≤◌, Bool, true, false, ◌&&◌, List, [], ◌∷◌, ◌++◌, length, reverse, take, drop, Option, Some, None, if◌then◌else◌, refl, ap, sym, ◌∙◌, subst, arith, eqb, append_assoc}
+use Rattle.std.proofs.Common.{◌⊎◌, inl, inr, get_or, ◌≡◌, ℕ, suc, ◌+◌, ◌-◌, ◌<◌, ◌≤◌, Bool, true, false, ◌&&◌, List, [], ◌∷◌, ◌++◌, length, reverse, take, drop, Some, None, refl, ap, sym, ◌∙◌, arith, eqb}
 use Rattle.std.proofs.lemmas.List.{reverse-append, reverse-reverse, length-append, length-take, length-drop, length-take-le, take-append-drop, drop-drop, ext_get_or, get_or-take, get_or-drop, get_or-append-add, get_or_append_left}
 use Rattle.std.proofs.lemmas.Bool.{cases_lt}
 use Rattle.memchr.specs.Find.{OccursAt, FindsNeedle}
@@ -8,7 +8,7 @@ use Rattle.std.proofs.lemmas.Slice.Eq.{starts_is, ends_is}
 use Rattle.std.specs.List.{starts_with}
 use Rattle.std.specs.List
 use Rattle.std.proofs.lemmas.Grind.{common_steps}
-use Rattle.sql_strings.specs.Texts.{begins_with, ends_with, first_place, next_place, place_of, put_before, pieces_behind, pieces, joined_by, continued_by, replaced}
+use Rattle.sql_strings.specs.Texts.{begins_with, ends_with, first_place, next_place, place_of, put_before, pieces_behind, pieces}
 
 -- two tests with one meaning
 pub same-test : (a b : Bool) → (a ≡ true → b ≡ true) → (b ≡ true → a ≡ true) → a ≡ b
@@ -119,15 +119,15 @@ pub bytes-begin : (p s : List ℕ) (b : Bool) → b ≡ starts_with eqb s p → 
 bytes-begin p s b is =
     let says = starts_is Decides-eqb s p b is in
     same-test b (begins_with p s)
-        (λ h. ap (begins_with p) (says.0 h) ∙ begins-append p (drop (length p) s))
-        (λ h. let r = begins-split p s h in says.1 r.0 r.1)
+    (λ h. ap (begins_with p) (says.0 h) ∙ begins-append p (drop (length p) s))
+    (λ h. let r = begins-split p s h in says.1 r.0 r.1)
 
 pub bytes-end : (p s : List ℕ) (b : Bool) → b ≡ List.ends_with eqb s p → b ≡ ends_with p s
 bytes-end p s b is =
     let says = ends_is Decides-eqb s p b is in
     same-test b (ends_with p s)
-        (λ h. ap (ends_with p) (says.0 h) ∙ ends-append (take (length s - length p) s) p)
-        (λ h. let f = ends-split p s h in says.1 f.0 f.1)
+    (λ h. ap (ends_with p) (says.0 h) ∙ ends-append (take (length s - length p) s) p)
+    (λ h. let f = ends-split p s h in says.1 f.0 f.1)
 
 -- the part stands in the text at a place of bytes
 occurs-split : (xs part : List ℕ) (k : ℕ) → OccursAt xs part k → xs ≡ take k xs ++ (part ++ drop (k + length part) xs)
@@ -135,8 +135,8 @@ occurs-split xs part k at =
     let fits = at.fits in
     let size : length (take (length part) (drop k xs)) ≡ length part = omega (arith, fits, length-take (length part) (drop k xs), length-drop k xs) in
     let same : take (length part) (drop k xs) ≡ part =
-        ext_get_or 0 (take (length part) (drop k xs)) part size
-            (λ i less. let inside : i < length part = omega (arith, less, size) in get_or-take (length part) (drop k xs) i 0 inside ∙ get_or-drop k xs i 0 ∙ at.reads i inside) in
+    ext_get_or 0 (take (length part) (drop k xs)) part size
+    (λ i less. let inside : i < length part = omega (arith, less, size) in get_or-take (length part) (drop k xs) i 0 inside ∙ get_or-drop k xs i 0 ∙ at.reads i inside) in
     sym (take-append-drop k xs)
     ∙ ap (λ t. take k xs ++ t) (sym (take-append-drop (length part) (drop k xs)) ∙ ap (λ t. t ++ drop (length part) (drop k xs)) same ∙ ap (λ t. part ++ t) (drop-drop (length part) k xs))
 

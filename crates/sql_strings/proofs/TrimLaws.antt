@@ -1,42 +1,11 @@
 -- Symbols that are dropped at the ends of a text.
-use Rattle.std.proofs.Common.{◌≡◌, ℕ, suc, ◌+◌, ◌<◌, Bool, true, false, ◌&&◌, cond, List, [], ◌∷◌, ◌++◌, length, reverse, if◌then◌else◌, refl, ap, sym, ◌∙◌, arith, eqb}
+use Rattle.std.proofs.Common.{◌≡◌, ℕ, suc, Bool, true, false, ◌&&◌, cond, List, [], ◌∷◌, ◌++◌, length, reverse, if◌then◌else◌, refl, ap, sym, ◌∙◌, arith, eqb}
 use Rattle.std.proofs.lemmas.Grind.{common_steps}
 use Rattle.std.specs.Char.{is_whitespace}
-use Rattle.std.specs.Str.{IsUtf8, chars, encode_utf8_all, skip_leading_whitespace, drop_trailing_whitespace, trim_start, trim_end}
+use Rattle.std.specs.Str.{IsUtf8, chars, skip_leading_whitespace, drop_trailing_whitespace, trim_start, trim_end}
 use Rattle.std.proofs.lemmas.Str.{chars_from_encodes}
-use Rattle.std.proofs.lemmas.List.{reverse-append, reverse-reverse, length-append, length-reverse}
+use Rattle.std.proofs.lemmas.List.{reverse-append, reverse-reverse, length-reverse}
 use Rattle.sql_strings.specs.Texts.{drop_front, drop_back}
-
--- ---- one symbol at an end
-
-pub front-dropped : (drops : ℕ → Bool) (c : ℕ) (rest behind whole : List ℕ) → rest ≡ c ∷ behind → drops c ≡ true → drop_front drops rest ≡ whole → drop_front drops behind ≡ whole
-front-dropped drops c rest behind whole split dropped so_far =
-    let step : drop_front drops (c ∷ behind) ≡ drop_front drops behind = rw dropped refl in
-    sym step ∙ ap (drop_front drops) (sym split) ∙ so_far
-
-pub front-kept : (drops : ℕ → Bool) (c : ℕ) (rest behind whole : List ℕ) → rest ≡ c ∷ behind → drops c ≡ false → drop_front drops rest ≡ whole → rest ≡ whole
-front-kept drops c rest behind whole split kept so_far =
-    let step : drop_front drops (c ∷ behind) ≡ c ∷ behind = rw kept refl in
-    split ∙ sym step ∙ ap (drop_front drops) (sym split) ∙ so_far
-
-pub front-none : (drops : ℕ → Bool) (rest whole : List ℕ) → rest ≡ [] → drop_front drops rest ≡ whole → rest ≡ whole
-front-none drops rest whole none so_far = none ∙ ap (drop_front drops) (sym none) ∙ so_far
-
-turned : (rest before : List ℕ) (c : ℕ) → rest ≡ before ++ c ∷ [] → reverse rest ≡ c ∷ reverse before
-turned rest before c split = ap reverse split ∙ reverse-append before (c ∷ [])
-
-pub back-dropped : (drops : ℕ → Bool) (c : ℕ) (rest before whole : List ℕ) → rest ≡ before ++ c ∷ [] → drops c ≡ true → drop_back drops rest ≡ whole → drop_back drops before ≡ whole
-back-dropped drops c rest before whole split dropped so_far =
-    let step : drop_front drops (c ∷ reverse before) ≡ drop_front drops (reverse before) = rw dropped refl in
-    ap reverse (sym step ∙ ap (drop_front drops) (sym (turned rest before c split))) ∙ so_far
-
-pub back-kept : (drops : ℕ → Bool) (c : ℕ) (rest before whole : List ℕ) → rest ≡ before ++ c ∷ [] → drops c ≡ false → drop_back drops rest ≡ whole → rest ≡ whole
-back-kept drops c rest before whole split kept so_far =
-    let step : drop_front drops (c ∷ reverse before) ≡ c ∷ reverse before = rw kept refl in
-    sym (reverse-reverse rest) ∙ ap reverse (turned rest before c split ∙ sym step ∙ ap (drop_front drops) (sym (turned rest before c split))) ∙ so_far
-
-pub back-none : (drops : ℕ → Bool) (rest whole : List ℕ) → rest ≡ [] → drop_back drops rest ≡ whole → rest ≡ whole
-back-none drops rest whole none so_far = none ∙ ap (drop_back drops) (sym none) ∙ so_far
 
 -- ---- white space, as std drops it
 
@@ -71,12 +40,15 @@ back-cons drops c cs = by (drop_front drops (reverse cs)) refl
   where
     whole : drop_back drops (c ∷ cs) ≡ reverse (drop_front drops (reverse cs ++ c ∷ []))
     whole = ap (λ t. reverse (drop_front drops t)) (reverse-append (c ∷ []) cs)
+
     one : (b : Bool) → cond (b && true) [] (c ∷ []) ≡ reverse (if b then [] else c ∷ [])
     one true = refl
     one false = refl
+
     and-false : (b : Bool) → (b && false) ≡ false
     and-false true = refl
     and-false false = refl
+
     by : (rs : List ℕ) → drop_front drops (reverse cs) ≡ rs → cond (drops c && eqb (length (drop_back drops cs)) 0) [] (c ∷ drop_back drops cs) ≡ drop_back drops (c ∷ cs)
     by [] is =
         let none : drop_back drops cs ≡ [] = ap reverse is in

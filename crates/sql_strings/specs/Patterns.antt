@@ -1,5 +1,5 @@
 -- LIKE: patterns, and the texts that they match.
-use Rattle.std.specs.Prelude.{◌≡◌, ℕ, ◌==◌, Bool, true, false, ◌||◌, if◌then◌else◌, List, [], ◌∷◌, ◌++◌, Option, None, Some, Result, Ok, Err}
+use Rattle.std.specs.Prelude.{ℕ, ◌==◌, Bool, true, false, ◌||◌, if◌then◌else◌, List, [], ◌∷◌, ◌++◌, Option, None, Some, Ok, Err}
 use Rattle.std.specs.Str.{IsUtf8, chars}
 use Rattle.sql_strings.specs.declared.pattern.PatternPart.{PatternPart}
 use Rattle.sql_strings.specs.declared.pattern.PatternPart.TheVariants as code

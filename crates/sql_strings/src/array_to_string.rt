@@ -16,7 +16,10 @@ use std::alloc::{AllocError, Global};
 
 /// ARRAY_TO_STRING: the elements of an ARRAY<STRING> with the second value between them. NULL elements are left out, or
 /// stand as the third value where there is one.
-pub fn array_to_string_array_string_string(alloc: Global, values: &[Value]) -> Result<Value, CallFault>
+pub fn array_to_string_array_string_string(
+    alloc: Global,
+    values: &[Value],
+) -> Result<Value, CallFault>
     requires { fits_types_or_less (types.Array types.Text ∷ types.Text ∷ []) types.Text values.now ≡ true }
     ensures { Answers (just (apply_array_to_string values.now)) result }
 {
@@ -30,7 +33,13 @@ pub fn array_to_string_array_string_string(alloc: Global, values: &[Value]) -> R
         }
         [array, separator, null_text] => {
             let null_text = text_of(null_text);
-            let made = joined_elements(alloc, elements_of(array), text_of(separator), true, null_text)?;
+            let made = joined_elements(
+                alloc,
+                elements_of(array),
+                text_of(separator),
+                true,
+                null_text,
+            )?;
             Ok(Value::Text(made))
         }
         _ => Ok(Value::Null),

@@ -15,6 +15,8 @@ pub mod replace;
 pub mod reverse;
 mod search;
 pub mod split;
+#[cfg(test)]
+mod tests;
 pub mod trim;
 
 pub use array_to_string::array_to_string_array_string_string;

@@ -64,7 +64,12 @@ fn replaced_text(alloc: Global, text: &str, old: &str, new: &str) -> Result<Text
     Ok(Text::from_string(made))
 }
 
-fn replaced_bytes(alloc: Global, content: &[u8], old: &[u8], new: &[u8]) -> Result<Bytes, AllocError>
+fn replaced_bytes(
+    alloc: Global,
+    content: &[u8],
+    old: &[u8],
+    new: &[u8],
+) -> Result<Bytes, AllocError>
     ensures { IfOk result (λ made. made ≡ replaced old.now new.now content.now) }
 {
     if old.is_empty() {

@@ -12,6 +12,6 @@ use Rattle.sql_strings.proofs.array_to_string.joined_elements.Given as goal
 abbrev pub invariant-loop-element : goal.invariant-loop-element
 invariant-loop-element l = record {
   so_far : string_bytes l.made ++ Rest l.is_first l.separator (element_texts (if l.keeps_nulls then Some l.null_text else None) (drop l.element-index l.elements))
-    ≡ joined_by l.separator (element_texts (if l.keeps_nulls then Some l.null_text else None) l.elements);
+      ≡ joined_by l.separator (element_texts (if l.keeps_nulls then Some l.null_text else None) l.elements);
   fit : list_all (fits types.Text) (drop l.element-index l.elements) ≡ true;
 }

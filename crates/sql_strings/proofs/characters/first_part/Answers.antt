@@ -13,4 +13,4 @@ returns c =
     let value : c.range.result.now ≡ take (length c.args.text.now - length c.without_first-rest.result.now) c.args.text.now = grind (arith, common_steps) in
     ap chars value
     ∙ chars-front c.args.text.now c.without_first-rest.ensures.behind.0 c.without_first-rest.result.now c.args.count c.utf8.text c.without_first-rest.utf8
-        c.without_first-rest.ensures.behind.1 c.without_first-rest.ensures.characters
+    c.without_first-rest.ensures.behind.1 c.without_first-rest.ensures.characters

@@ -10,5 +10,5 @@ returns-in_err-last-clause-characters c =
 pub returns-clause-characters : goal.returns-clause-characters
 returns-clause-characters c =
     let split : c.args.text.now ≡ c.as_str.result.now ++ encode_utf8 c.in_ok-last.last =
-        sym c.chars-rest.ensures.rest ∙ c.in_ok-last.ensures.steps ∙ ap (λ t. t ++ encode_utf8 c.in_ok-last.last) (sym c.as_str.ensures) in
+    sym c.chars-rest.ensures.rest ∙ c.in_ok-last.ensures.steps ∙ ap (λ t. t ++ encode_utf8 c.in_ok-last.last) (sym c.as_str.ensures) in
     chars-last c.args.text.now c.as_str.result.now c.in_ok-last.last c.utf8.text c.as_str.utf8 split

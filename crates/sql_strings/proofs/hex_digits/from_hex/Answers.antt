@@ -1,8 +1,8 @@
-use Rattle.std.proofs.Common.{◌≡◌, ◌∙◌, ◌%◌, ap, arith, length, false, eqb}
+use Rattle.std.proofs.Common.{◌≡◌, ◌%◌, ap, arith, length, eqb}
 use Rattle.std.specs.Str.{chars}
 use Rattle.std.proofs.lemmas.Grind.{common_steps}
-use Rattle.sql_strings.specs.Hex.{padded, from_hex}
-use Rattle.sql_strings.proofs.HexLaws.{hex-start, hex-more, hex-not, hex-end, hex-some}
+use Rattle.sql_strings.specs.Hex.{from_hex}
+use Rattle.sql_strings.proofs.HexLaws.{hex-start, hex-more, hex-end, hex-some}
 use Rattle.sql_strings.proofs.hex_digits.from_hex.Goals as goal
 
 pub loop-rest-init : goal.loop-rest-init

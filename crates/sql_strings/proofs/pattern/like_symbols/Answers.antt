@@ -5,4 +5,4 @@ use Rattle.sql_strings.proofs.pattern.like_symbols.Goals as goal
 pub returns-in-Ok : goal.returns-in-Ok
 returns-in-Ok g c =
     like-parts (g.S.Symbols.symbols c.args.pattern) (g.S.Symbols.symbols c.args.text) c.some_rest.result (sym c.if-not-is_pattern.ensures)
-        (c.in-Ok.ensures.anchored ∙ sym c.some_rest.ensures)
+    (c.in-Ok.ensures.anchored ∙ sym c.some_rest.ensures)

@@ -2,7 +2,7 @@ use Rattle.std.proofs.Common.{◌≡◌, ◌∙◌, ◌<◌, ◌++◌, ap, lengt
 use Rattle.std.specs.Prelude.{IfOk}
 use Rattle.std.specs.Str.{chars, encode_utf8_all}
 use Rattle.std.proofs.lemmas.Grind.{common_steps}
-use Rattle.sql_strings.specs.Texts.{joined_by, pieces, replaced}
+use Rattle.sql_strings.specs.Texts.{joined_by, pieces}
 use Rattle.sql_strings.proofs.PieceLaws.{text-replaced, text-replaced-last, text-replaced-first, text-unreplaced}
 use Rattle.sql_strings.proofs.replace.replaced_text.Goals as goal
 
@@ -17,7 +17,7 @@ loop-piece-init c =
     let some : 0 < length c.args.old.now = grind (arith, common_steps) in
     record {
       so_far = ap (λ t. t ++ encode_utf8_all (joined_by (chars c.args.new.now) (pieces (chars c.args.old.now) (chars c.args.text.now)))) c.new-made.ensures.bytes
-        ∙ text-replaced-first c.args.new.now c.args.old.now c.args.text.now c.utf8.old some;
+          ∙ text-replaced-first c.args.new.now c.args.old.now c.args.text.now c.utf8.old some;
       utf8 = c.utf8.text;
     }
 
@@ -26,8 +26,8 @@ loop-piece-preserved c =
     let made = c.in_ok-push_str-2.ensures.bytes ∙ ap (λ t. t ++ c.args.new.now) c.in_ok-push_str.ensures.bytes in
     record {
       so_far = ap (λ t. t ++ encode_utf8_all (joined_by (chars c.args.new.now) (pieces (chars c.args.old.now) (chars c.in-Some.behind.now)))) made
-        ∙ text-replaced _ c.in-Some.piece.now c.args.new.now c.args.old.now c.loop-piece.rest.now c.in-Some.behind.now _ c.in-Some.ensures.utf8.0 c.utf8.new
-            c.in-Some.ensures.pieces c.loop-piece.invariant.so_far;
+          ∙ text-replaced _ c.in-Some.piece.now c.args.new.now c.args.old.now c.loop-piece.rest.now c.in-Some.behind.now _ c.in-Some.ensures.utf8.0 c.utf8.new
+          c.in-Some.ensures.pieces c.loop-piece.invariant.so_far;
       utf8 = c.in-Some.ensures.utf8.1;
     }
 
