@@ -7,14 +7,16 @@ mod characters;
 pub mod concat;
 pub mod hex_digits;
 pub mod lengths;
+pub mod matching;
 pub mod parts;
-pub mod pattern;
+mod pattern;
 pub mod places;
 pub mod repeat;
 pub mod replace;
 pub mod reverse;
 mod search;
 pub mod split;
+mod symbols;
 #[cfg(test)]
 mod tests;
 pub mod trim;
@@ -25,8 +27,8 @@ pub use hex_digits::{from_hex_string, to_hex_bytes};
 pub use lengths::{
     byte_length_bytes, byte_length_string, char_length_string, length_bytes, length_string,
 };
+pub use matching::like;
 pub use parts::{substr_bytes_int64_int64, substr_string_int64_int64};
-pub use pattern::like;
 pub use places::{
     ends_with_bytes_bytes, ends_with_string_string, starts_with_bytes_bytes,
     starts_with_string_string, strpos_bytes_bytes, strpos_string_string,

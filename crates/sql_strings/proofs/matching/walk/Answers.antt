@@ -1,7 +1,7 @@
 use Rattle.std.proofs.Common.{arith, length}
 use Rattle.sql_strings.specs.Patterns.{parts}
 use Rattle.sql_strings.proofs.PatternLaws.{walk-met, walk-met-anywhere, walk-not, walk-on, walk-on-anywhere, walk-parts, walk-rest}
-use Rattle.sql_strings.proofs.pattern.walk.Goals as goal
+use Rattle.sql_strings.proofs.matching.walk.Goals as goal
 
 pub returns-in-AnyText-clause-anchored : goal.returns-in-AnyText-clause-anchored
 returns-in-AnyText-clause-anchored g c =

@@ -1,6 +1,6 @@
 use Rattle.sql_strings.specs.Patterns.{parts}
 use Rattle.sql_strings.proofs.PatternLaws.{rest-true}
-use Rattle.sql_strings.proofs.pattern.some_rest.Goals as goal
+use Rattle.sql_strings.proofs.matching.some_rest.Goals as goal
 
 pub returns-in-Err-true : goal.returns-in-Err-true
 returns-in-Err-true g c =

@@ -1,6 +1,6 @@
 use Rattle.std.proofs.Common.{◌∙◌, sym}
 use Rattle.sql_strings.proofs.PatternLaws.{like-parts}
-use Rattle.sql_strings.proofs.pattern.like_symbols.Goals as goal
+use Rattle.sql_strings.proofs.matching.like_symbols.Goals as goal
 
 pub returns-in-Ok : goal.returns-in-Ok
 returns-in-Ok g c =

@@ -3,7 +3,7 @@
 use Rattle.std.proofs.Common.{◌≡◌, ◌≤◌, length, true}
 use Rattle.std.specs.Prelude.{is_some}
 use Rattle.sql_strings.specs.Patterns.{parts, passes, some_rest}
-use Rattle.sql_strings.proofs.pattern.walk.Given as goal
+use Rattle.sql_strings.proofs.matching.walk.Given as goal
 
 abbrev pub invariant-loop-first : goal.invariant-loop-first
 invariant-loop-first g l = record {

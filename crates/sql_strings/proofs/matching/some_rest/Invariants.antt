@@ -2,7 +2,7 @@
 use Rattle.std.proofs.Common.{◌≡◌, ◌+◌, length, true}
 use Rattle.std.specs.Prelude.{is_some}
 use Rattle.sql_strings.specs.Patterns.{parts, passes, some_rest}
-use Rattle.sql_strings.proofs.pattern.some_rest.Given as goal
+use Rattle.sql_strings.proofs.matching.some_rest.Given as goal
 
 abbrev pub invariant-loop-after : goal.invariant-loop-after
 invariant-loop-after g l = record {
