@@ -1,5 +1,5 @@
 -- Worked examples of the definitions, by computation.
-use Rattle.std.proofs.Common.{◌≡◌, refl, ℕ, ℤ, pos, negsuc, true, false, List, [], ◌∷◌, Option, Some, None, Ok, Err, codes}
+use Rattle.std.proofs.Common.{◌≡◌, refl, pos, negsuc, true, [], ◌∷◌, Some, Ok, Err, codes}
 use denote.Hole.Carrier.{out}
 use Rattle.std.specs.Str.{chars}
 use Rattle.sql_types.specs.declared.value.Value.{out-Value}
@@ -7,8 +7,8 @@ use Rattle.sql_types.specs.declared.value.Value.TheVariants as value
 use Rattle.sql_types.specs.declared.fault.FaultKind.TheVariants as fault
 use Rattle.sql_strings.specs.Texts.{part_at, from_place, first_place, place_of, split_text, replaced}
 use Rattle.sql_strings.specs.Patterns.{like}
-use Rattle.sql_strings.specs.Hex.{to_hex, from_hex}
-use Rattle.sql_strings.specs.Rows.{string_kind, bytes_kind, apply_substr, apply_length, apply_repeat}
+use Rattle.sql_strings.specs.Hex.{from_hex}
+use Rattle.sql_strings.specs.Rows.{string_kind, apply_substr, apply_length}
 
 -- SUBSTR('abc', -5, 2) begins at the first character
 before_the_start : part_at (negsuc 4) 2 (codes "abc") ≡ codes "ab"

@@ -33,3 +33,7 @@ pairs_of (c ∷ d ∷ more) = with_byte (digit_value c) (digit_value d) (pairs_o
 -- an odd number of digits is read as with a `0` before it
 abbrev pub from_hex : List ℕ → Option (List ℕ)
 from_hex digits = if length digits % 2 == 0 then pairs_of digits else pairs_of (48 ∷ digits)
+
+-- the digits, with a `0` before them where their number is odd
+abbrev pub padded : Bool → List ℕ → List ℕ
+padded is_odd digits = if is_odd then 48 ∷ digits else digits

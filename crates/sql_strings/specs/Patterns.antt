@@ -1,5 +1,8 @@
 -- LIKE: patterns, and the texts that they match.
-use Rattle.std.specs.Prelude.{◌≡◌, ℕ, ◌==◌, Bool, true, false, ◌||◌, if◌then◌else◌, List, [], ◌∷◌, ◌++◌, Option, None, Some, Result, Ok, Err}
+use Rattle.std.specs.Prelude.{ℕ, ◌==◌, Bool, true, false, ◌||◌, if◌then◌else◌, List, [], ◌∷◌, ◌++◌, Option, None, Some, Ok, Err}
+use Rattle.std.specs.Str.{IsUtf8, chars}
+use Rattle.sql_strings.specs.declared.pattern.PatternPart.{PatternPart}
+use Rattle.sql_strings.specs.declared.pattern.PatternPart.TheVariants as code
 use Rattle.sql_types.specs.declared.fault.FaultKind.TheVariants.{Pattern}
 use Rattle.sql_types.specs.Outcome.{Outcome}
 
@@ -11,6 +14,12 @@ pub data Part : Type 0 where
   any_symbol : Part
   -- this symbol as it is
   this : ℕ → Part
+
+-- a part as the code has it
+abbrev pub said : PatternPart → Part
+said code.AnyText = any_text
+said code.AnySymbol = any_symbol
+said (code.This c) = this c
 
 abbrev pub with_part : Part → Option (List Part) → Option (List Part)
 with_part p None = None
@@ -50,6 +59,12 @@ abbrev pub first_passes : (ℕ → Bool) → (List ℕ → Bool) → List ℕ �
 first_passes is passes [] = false
 first_passes is passes (x ∷ xs) = if is x then passes xs else false
 
+-- a part that is no `%` takes this symbol
+abbrev pub takes : Part → ℕ → Bool
+takes any_text x = true
+takes any_symbol x = true
+takes (this c) x = x == c
+
 abbrev pub is_end : List ℕ → Bool
 is_end [] = true
 is_end (x ∷ xs) = false
@@ -59,6 +74,21 @@ matches [] = is_end
 matches (any_text ∷ ps) = some_rest (matches ps)
 matches (any_symbol ∷ ps) = first_passes (λ x. true) (matches ps)
 matches (this c ∷ ps) = first_passes (λ x. x == c) (matches ps)
+
+-- the same by the parts of a pattern; a pattern that has no parts matches no text
+abbrev pub passes : Option (List Part) → List ℕ → Bool
+passes None text = false
+passes (Some ps) text = matches ps text
+
+-- a text as its symbols: its bytes, or its characters
+abbrev pub symbols : Bool → List ℕ → List ℕ
+symbols true bytes = bytes
+symbols false bytes = chars bytes
+
+-- the bytes are such a text
+abbrev pub IsText : Bool → List ℕ → Type 0
+IsText true bytes = Unit {0}
+IsText false bytes = IsUtf8 bytes
 
 -- the answer of LIKE: a pattern whose last backslash has nothing to escape is a fault, whatever the text
 abbrev pub like_by : Option (List Part) → List ℕ → Outcome Bool

@@ -1,10 +1,9 @@
 -- The functions on STRING and BYTES, a row each: what its call answers for values that fit the row.
-use Rattle.std.specs.Prelude.{ℕ, suc, ◌*◌, ℤ, pos, negsuc, nat_lt, Bool, true, false, ◌&&◌, ◌||◌, if◌then◌else◌, List, [], ◌∷◌, ◌++◌, map, length, reverse, Option, None, Some, Result, Ok, Err}
+use Rattle.std.specs.Prelude.{ℕ, ◌*◌, ℤ, pos, negsuc, nat_lt, Bool, true, false, if◌then◌else◌, List, [], ◌∷◌, map, length, reverse, Option, None, Some, Ok, Err}
 use Rattle.std.specs.Str.{chars, encode_utf8_all}
 use Rattle.std.specs.Char.{is_whitespace}
 use Rattle.sql_types.specs.declared.value.Value.{Value, out-Value}
 use Rattle.sql_types.specs.declared.value.Value.TheVariants as value
-use Rattle.sql_types.specs.declared.fault.FaultKind.{FaultKind}
 use Rattle.sql_types.specs.declared.fault.FaultKind.TheVariants as fault
 use Rattle.sql_types.specs.Before.{is_null}
 use Rattle.sql_types.specs.Outcome.{Outcome}
@@ -152,8 +151,9 @@ apply_split = strict split_row
 abbrev pub element_texts : Option (List ℕ) → List Value → List (List ℕ)
 element_texts standing [] = []
 element_texts standing (x ∷ xs) = elim (is_null (out-Value x)) [
-    false ↦ content x ∷ element_texts standing xs
-  | true ↦ elim standing [ None ↦ element_texts standing xs | Some text ↦ text ∷ element_texts standing xs ] ]
+  | false ↦ content x ∷ element_texts standing xs
+  | true ↦ elim standing [ None ↦ element_texts standing xs | Some text ↦ text ∷ element_texts standing xs ]
+]
 
 abbrev pub array_to_string_row : List Value → Outcome Value
 array_to_string_row (xs ∷ separator ∷ []) = Ok (value.Text (joined_by (content separator) (element_texts None (elements xs))))
