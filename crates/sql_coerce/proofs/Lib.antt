@@ -1,0 +1,4 @@
+pub mod Outs
+pub mod Opens
+pub mod Levels
+mod Examples
