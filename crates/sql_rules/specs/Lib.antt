@@ -2,3 +2,8 @@ pub mod Scopes
 pub mod Typing
 pub mod Tables
 pub mod Meaning
+pub mod Checks
+pub mod Sights
+pub mod Places
+pub mod TypeNames
+pub mod TypeForms
