@@ -7,3 +7,8 @@ pub mod Sights
 pub mod Places
 pub mod TypeNames
 pub mod TypeForms
+pub mod FromScopes
+pub mod Paths
+pub mod TypeCalls
+pub mod CatalogNames
+pub mod TypeLayers
