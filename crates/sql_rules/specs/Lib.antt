@@ -12,3 +12,6 @@ pub mod Paths
 pub mod TypeCalls
 pub mod CatalogNames
 pub mod TypeLayers
+pub mod Types
+pub mod Environments
+pub mod MeansForms
