@@ -15,3 +15,5 @@ pub mod TypeLayers
 pub mod Types
 pub mod Environments
 pub mod MeansForms
+pub mod MeansFroms
+pub mod MeansLayers
