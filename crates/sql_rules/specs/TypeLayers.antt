@@ -209,6 +209,13 @@ entry_named name scope = list_any (λ e. lists (name ∷ []) e.name) scope
 abbrev pub cte_named : List ℕ → List (List ℕ) → Bool
 cte_named name names = list_any (same_name name) names
 
+-- the forms of SELECT and of queries that are built
+abbrev pub is_plain_select : {E P T F J Q S : Type 0} → Select-F E P T F J Q S → Bool
+is_plain_select s = not s.distinct && (elim s.grouping [ None ↦ true | Some g ↦ false ] && elim s.having [ None ↦ true | Some h ↦ false ])
+
+abbrev pub is_plain_query : {E P T F J Q S : Type 0} → Query-F E P T F J Q S → Bool
+is_plain_query q = is_empty q.body.rest && (is_empty q.order && elim q.limit [ None ↦ true | Some l ↦ false ])
+
 -- the catalog, and how its definitions in sight are typed, in order
 module _ (catalog : Entries) (definitions : List Defined) where
   module _ {E P T F J Q S : Type 0} (parts : Typings E P T F J Q S) where
@@ -515,9 +522,6 @@ module _ (catalog : Entries) (definitions : List Defined) where
         items_layer from s.items (inside sight from.scope) >>= (λ columns.
         as_one_struct s.as_struct sight.as_struct s.place columns)))
 
-    abbrev pub is_plain_select : Select-F E P T F J Q S → Bool
-    is_plain_select s = not s.distinct && (elim s.grouping [ None ↦ true | Some g ↦ false ] && elim s.having [ None ↦ true | Some h ↦ false ])
-
     abbrev pub select_layer : Select-F E P T F J Q S → Sight → Checked Columns
     select_layer s sight = elim (is_plain_select s) [ true ↦ plain_select s sight | false ↦ unbuilt ]
 
@@ -532,9 +536,6 @@ module _ (catalog : Entries) (definitions : List Defined) where
         parts.query c.query (for_struct false sight) >>= (λ columns.
         unless (cte_named c.name.text names) 8 c.name.place >>= (λ _.
         ctes_layer (c.name.text ∷ names) ctes (with_cte sight (record { name = c.name.text; columns = columns }))))
-
-    abbrev pub is_plain_query : Query-F E P T F J Q S → Bool
-    is_plain_query q = is_empty q.body.rest && (is_empty q.order && elim q.limit [ None ↦ true | Some l ↦ false ])
 
     -- WITH, and then the body
     abbrev pub query_layer : Query-F E P T F J Q S → Sight → Checked Columns
