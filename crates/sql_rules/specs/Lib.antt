@@ -17,3 +17,4 @@ pub mod Environments
 pub mod MeansForms
 pub mod MeansFroms
 pub mod MeansLayers
+pub mod Meanings
