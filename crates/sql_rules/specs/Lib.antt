@@ -12,6 +12,7 @@ pub mod Paths
 pub mod TypeCalls
 pub mod CatalogNames
 pub mod TypeLayers
+pub mod Unbuilt
 pub mod Types
 pub mod Environments
 pub mod MeansForms

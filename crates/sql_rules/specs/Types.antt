@@ -21,6 +21,7 @@ use Rattle.sql_rules.specs.declared.scope.What.TheVariants as what
 use Rattle.sql_rules.specs.Checks.{Checked, ◌>>=◌, broken}
 use Rattle.sql_rules.specs.Sights.{Sight, nothing_in_sight, inside, for_struct}
 use Rattle.sql_rules.specs.FromScopes.{FromScope}
+use Rattle.sql_rules.specs.Unbuilt.{unbuilt_query, unbuilt_expr}
 use Rattle.sql_rules.specs.TypeForms.{type_of}
 use Rattle.sql_rules.specs.TypeCalls.{Defined, a_view, a_function}
 use Rattle.sql_rules.specs.TypeLayers.{Typings, Columns, expr_layer, primary_layer, term_layer, from_layer, joined_layer, query_layer, select_layer}
@@ -105,13 +106,14 @@ argument_scope (a ∷ arguments) (type ∷ types) = record { name = Some a.name;
 
 -- a definition whose text has no tree has no type
 abbrev pub view_columns : Entries → List Defined → Written Query → Checked Columns
-view_columns catalog before (written.Tree query) = TypeQuery catalog before query (for_struct false nothing_in_sight)
+view_columns catalog before (written.Tree query) = elim (unbuilt_query query) [ true ↦ broken 2 0 | false ↦ TypeQuery catalog before query (for_struct false nothing_in_sight) ]
 view_columns catalog before (written.NoTree place) = broken 1 place
 view_columns catalog before written.Nested = broken 1 0
 
 abbrev pub body_type : Entries → List Defined → List Argument → Written Expr → List SqlType → Checked SqlType
-body_type catalog before arguments (written.Tree body) types =
-    TypeExpr catalog before body (inside nothing_in_sight (argument_scope arguments types)) >>= (λ a. Ok (type_of a))
+body_type catalog before arguments (written.Tree body) types = elim (unbuilt_expr body) [
+    true ↦ broken 2 0
+  | false ↦ TypeExpr catalog before body (inside nothing_in_sight (argument_scope arguments types)) >>= (λ a. Ok (type_of a)) ]
 body_type catalog before arguments (written.NoTree place) types = broken 1 place
 body_type catalog before arguments written.Nested types = broken 1 0
 
@@ -128,6 +130,6 @@ defined_from catalog before (d ∷ definitions) = defined_from catalog (before +
 abbrev pub definitions_of : Entries → List Defined
 definitions_of catalog = defined_from catalog [] catalog.definitions
 
--- The type of a text: its columns, or the first broken rule and its place.
+-- The type of a text: its columns, or the first broken rule and its place. A form that isn't built comes before every other.
 abbrev pub TypeText : Entries → Query → Checked Columns
-TypeText catalog query = TypeQuery catalog (definitions_of catalog) query nothing_in_sight
+TypeText catalog query = elim (unbuilt_query query) [ true ↦ broken 2 0 | false ↦ TypeQuery catalog (definitions_of catalog) query nothing_in_sight ]
