@@ -1,5 +1,5 @@
 -- What each row of the signature table answers.
-use Rattle.std.specs.Prelude.{List}
+use Rattle.std.specs.Prelude.{List, Ok}
 use Rattle.sql_types.specs.declared.value.Value.{Value}
 use Rattle.sql_types.specs.declared.value.Value.TheVariants as value
 use Rattle.sql_types.specs.Outcome.{Outcome}
@@ -110,3 +110,4 @@ apply sig.ArrayLast = a.apply_array_last
 apply sig.ArrayToString = s.apply_array_to_string
 apply sig.ArrayIncludes = a.apply_array_includes
 apply sig.GenerateArray = a.apply_generate_array
+apply _ = λ values. Ok value.Null

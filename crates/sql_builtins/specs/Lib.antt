@@ -1,3 +1,4 @@
 pub mod Table
 pub mod Choices
 pub mod Seen
+pub mod Applies

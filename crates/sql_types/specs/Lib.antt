@@ -16,3 +16,4 @@ pub mod Combined
 pub mod Arranged
 pub mod Cut
 pub mod Takes
+pub mod Calendar
