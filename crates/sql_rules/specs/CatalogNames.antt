@@ -2,7 +2,7 @@
 use Rattle.std.specs.Prelude.{ℕ, suc, Bool, true, false, if◌then◌else◌, List, [], ◌∷◌, Option, None, Some}
 use Rattle.sql_types.specs.declared.sql_type.Named.{Named}
 use Rattle.sql_types.specs.declared.sql_type.SqlType.{SqlType}
-use Rattle.sql_ast.specs.Words.{same_name}
+use Rattle.sql_names.specs.Words.{same_name}
 use Rattle.sql_catalog.specs.declared.entries.Definition.{Definition}
 use Rattle.sql_catalog.specs.declared.entries.Definition.TheVariants.{View, Function}
 use Rattle.sql_catalog.specs.declared.entries.Entries.{Entries}

@@ -14,7 +14,7 @@ use Rattle.sql_types.specs.Same.{equal}
 use Rattle.sql_types.specs.Logic.{Decided, truth_of}
 use Rattle.sql_types.specs.Outcome.{Outcome, Meaning, gives, just, nothing, ◌>>=◌, Gather, Both}
 use Rattle.sql_types.specs.Takes.{elements}
-use Rattle.sql_ast.specs.Words.{same_name}
+use Rattle.sql_names.specs.Words.{same_name}
 use Rattle.sql_ast.specs.declared.clauses.Aliased.{Aliased}
 use Rattle.sql_ast.specs.declared.clauses.Arg.{Arg as Argument}
 use Rattle.sql_ast.specs.declared.clauses.Arg.TheVariants as arg

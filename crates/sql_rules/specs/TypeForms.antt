@@ -8,7 +8,7 @@ use Rattle.sql_types.specs.declared.value.Value.{Value}
 use Rattle.sql_types.specs.declared.value.Value.TheVariants as value
 use Rattle.sql_types.specs.Comparable.{comparable}
 use Rattle.sql_types.specs.Calendar.{read_date}
-use Rattle.sql_ast.specs.Words.{same_name}
+use Rattle.sql_names.specs.Words.{same_name}
 use Rattle.sql_ast.specs.declared.clauses.Name.{Name}
 use Rattle.sql_ast.specs.declared.expr.Operator.{Operator}
 use Rattle.sql_ast.specs.declared.expr.Operator.TheVariants as operator

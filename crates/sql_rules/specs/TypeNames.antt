@@ -4,7 +4,7 @@ use Rattle.sql_types.specs.declared.sql_type.Named.{Named}
 use Rattle.sql_types.specs.declared.sql_type.SqlType.{SqlType, out-SqlType}
 use Rattle.sql_types.specs.declared.sql_type.SqlType.TheVariants as ty
 use Rattle.sql_types.specs.declared.sql_type.SqlType.TheOpen as t
-use Rattle.sql_ast.specs.Words.{same_name}
+use Rattle.sql_names.specs.Words.{same_name}
 use Rattle.sql_ast.specs.declared.clauses.Name.{Name}
 use Rattle.sql_ast.specs.declared.type_spelling.TypeField.{TypeField}
 use Rattle.sql_ast.specs.declared.type_spelling.TypeSpelling.{TypeSpelling, fold-TypeSpelling}

@@ -1,7 +1,7 @@
 -- Which texts hold a form that isn't built yet. Such a text is refused by rule 2 at 0, before anything of it is typed.
 use Rattle.std.specs.Prelude.{ℕ, Bool, true, false, ◌||◌, List, [], ◌∷◌, codes, Option, None, Some}
 use Rattle.std.specs.List.{list_any}
-use Rattle.sql_ast.specs.Words.{same_name}
+use Rattle.sql_names.specs.Words.{same_name}
 use Rattle.sql_ast.specs.declared.clauses.Aliased.{Aliased}
 use Rattle.sql_ast.specs.declared.clauses.Arg.{Arg as Argument}
 use Rattle.sql_ast.specs.declared.clauses.Arg.TheVariants as arg

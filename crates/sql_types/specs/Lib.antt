@@ -16,4 +16,3 @@ pub mod Combined
 pub mod Arranged
 pub mod Cut
 pub mod Takes
-pub mod Calendar
