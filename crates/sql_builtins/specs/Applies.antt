@@ -8,6 +8,7 @@ use Rattle.sql_numbers.specs.Integers as i
 use Rattle.sql_numbers.specs.Comparisons as c
 use Rattle.sql_numbers.specs.Arrays as a
 use Rattle.sql_strings.specs.Rows as s
+use Rattle.sql_dates.specs.Apply as d
 use Rattle.sql_builtins.specs.declared.sig.SigId.{SigId}
 use Rattle.sql_builtins.specs.declared.sig.SigId.TheVariants as sig
 
@@ -110,4 +111,15 @@ apply sig.ArrayLast = a.apply_array_last
 apply sig.ArrayToString = s.apply_array_to_string
 apply sig.ArrayIncludes = a.apply_array_includes
 apply sig.GenerateArray = a.apply_generate_array
-apply _ = λ values. Ok value.Null
+apply sig.Date = d.date
+apply sig.DateAdd = d.date_add
+apply sig.DateSub = d.date_sub
+apply sig.DateDiff = d.date_diff
+apply sig.DateTrunc = d.date_trunc
+apply sig.Extract = d.extract
+apply sig.UnixDate = d.unix_date
+apply sig.DateFromUnixDate = d.date_from_unix_date
+-- a lambda is no value: these rows are applied to none
+apply sig.ArrayIncludesLambda = λ values. Ok value.Null
+apply sig.ArrayFilter = λ values. Ok value.Null
+apply sig.ArrayTransform = λ values. Ok value.Null

@@ -9,7 +9,7 @@ use Rattle.sql_types.specs.Comparable.{comparable, orderable}
 use Rattle.sql_coerce.specs.declared.arg.Arg.{Arg}
 use Rattle.sql_coerce.specs.declared.arg.Kind.{Kind}
 use Rattle.sql_coerce.specs.declared.arg.Kind.TheVariants as kind
-use Rattle.sql_coerce.specs.SameTypes.{same_type}
+use Rattle.sql_types.specs.SameType.{same_type}
 use Rattle.sql_coerce.specs.Coercions.{coerces}
 use Rattle.sql_coerce.specs.Supertypes.{supertype}
 use Rattle.sql_builtins.specs.declared.sig.SigId.{SigId}
