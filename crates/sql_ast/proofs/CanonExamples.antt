@@ -11,7 +11,6 @@ use Rattle.sql_ast.specs.declared.expr.IndexForm.TheVariants as form
 use Rattle.sql_ast.specs.declared.expr.Operator.TheVariants as operator
 use Rattle.sql_ast.specs.declared.expr.Part.TheVariants as part
 use Rattle.sql_ast.specs.declared.expr.Expr.TheOpen as ast
-
 use Rattle.sql_ast.specs.Canon.{Print, expr_print}
 use Rattle.sql_ast.specs.Pieces.{text_of, lexeme_text}
 

@@ -80,28 +80,40 @@ use Rattle.sql_ast.specs.Trees.{set_word, set_quantifier}
 
 abbrev pub or_level : ℕ
 or_level = 0
+
 abbrev pub and_level : ℕ
 and_level = 1
+
 abbrev pub not_level : ℕ
 not_level = 2
+
 abbrev pub comparison_level : ℕ
 comparison_level = 3
+
 abbrev pub bit_or_level : ℕ
 bit_or_level = 4
+
 abbrev pub bit_xor_level : ℕ
 bit_xor_level = 5
+
 abbrev pub bit_and_level : ℕ
 bit_and_level = 6
+
 abbrev pub shift_level : ℕ
 shift_level = 7
+
 abbrev pub sum_level : ℕ
 sum_level = 8
+
 abbrev pub product_level : ℕ
 product_level = 9
+
 abbrev pub unary_level : ℕ
 unary_level = 10
+
 abbrev pub postfix_level : ℕ
 postfix_level = 11
+
 abbrev pub basic_level : ℕ
 basic_level = 12
 
@@ -279,7 +291,7 @@ call_limit limit = if_there (λ n. word r.Limit ∷ spaced (l.Integer n) ∷ [])
 abbrev pub call_pieces : Call Print → List Piece
 call_pieces call =
     function_piece call.function ∷ call_brackets (if_so call.distinct (word r.Distinct ∷ []) ++ star_or_arguments call.star call.arguments
-      ++ if_there nulls_part_pieces call.nulls ++ order_pieces call.order ++ call_limit call.limit)
+    ++ if_there nulls_part_pieces call.nulls ++ order_pieces call.order ++ call_limit call.limit)
 
 abbrev pub when_pieces : List (When Print) → List Piece
 when_pieces [] = []
@@ -388,7 +400,7 @@ turn_pieces (turn.Pivot aggregates input values place) =
     read_word w.Pivot ∷ bracketed (with_commas (map pivot_call_pieces aggregates) ++ word r.For ∷ (path_pieces input ++ word r.In ∷ bracketed (with_commas (map aliased_pieces values))))
 turn_pieces (turn.Unpivot include_nulls value label columns place) =
     read_word w.Unpivot ∷ (if_so include_nulls (read_word w.Include ∷ word r.Nulls ∷ [])
-      ++ bracketed (name value.text ∷ word r.For ∷ name label.text ∷ word r.In ∷ bracketed (with_commas (map unpivot_column_pieces columns))))
+    ++ bracketed (name value.text ∷ word r.For ∷ name label.text ∷ word r.In ∷ bracketed (with_commas (map unpivot_column_pieces columns))))
 
 abbrev pub turned_pieces : Turned Print → List Piece
 turned_pieces t = turn_pieces t.turn ++ alias_pieces t.alias
@@ -457,8 +469,8 @@ groups_pieces (groups.Cube c place) = cube_pieces c
 abbrev pub select_print : Select-F Print (List Piece) (List Piece) (List Piece) (List Piece) (List Piece) (List Piece) → List Piece
 select_print q =
     word r.Select ∷ (if_so q.distinct (word r.Distinct ∷ []) ++ if_so q.as_struct (word r.As ∷ word r.Struct ∷ []) ++ with_commas (map item_pieces q.items)
-      ++ if_there (λ f. word r.From ∷ f) q.from ++ if_there (λ e. word r.Where ∷ e.pieces) q.filter
-      ++ if_there (λ g. word r.Group ∷ word r.By ∷ groups_pieces g) q.grouping ++ if_there (λ h. word r.Having ∷ h.test.pieces) q.having)
+    ++ if_there (λ f. word r.From ∷ f) q.from ++ if_there (λ e. word r.Where ∷ e.pieces) q.filter
+    ++ if_there (λ g. word r.Group ∷ word r.By ∷ groups_pieces g) q.grouping ++ if_there (λ h. word r.Having ∷ h.test.pieces) q.having)
 
 abbrev pub term_print : Term-F Print (List Piece) (List Piece) (List Piece) (List Piece) (List Piece) (List Piece) → List Piece
 term_print (Term-F.Select select) = select

@@ -270,7 +270,7 @@ term_weight (Term-F.«Term::Query» query place) = query
 abbrev pub select_weight : Select-F ℕ ℕ ℕ ℕ ℕ ℕ ℕ → ℕ
 select_weight s =
     1 + (times s.grouping * sum item_weight s.items + (clause its_own s.from + (clause its_own s.filter
-      + (clause (λ g. grouping_sets g * groups_weight g) s.grouping + clause (λ h. times s.grouping * h.test) s.having))))
+    + (clause (λ g. grouping_sets g * groups_weight g) s.grouping + clause (λ h. times s.grouping * h.test) s.having))))
 
 abbrev pub limit_weight : LimitPart ℕ → ℕ
 limit_weight limit = limit.count + if_there its_own limit.offset
