@@ -46,10 +46,15 @@ abbrev pub all_letters : List ℕ → Bool
 all_letters [] = true
 all_letters (c ∷ cs) = is_letter c && all_letters cs
 
+-- the functions that take nothing but a lambda; a call of them without one has no signature
+abbrev pub lambda_functions : List (List ℕ)
+lambda_functions = codes "ARRAY_FILTER" ∷ codes "ARRAY_TRANSFORM" ∷ []
+
 -- a name of the signature table that a call may name: operators that are signs or several words aren't
 abbrev pub is_function_name : List ℕ → Bool
 is_function_name name =
-    list_any (λ row. same_name row.name name) signatures && all_letters (str_to_ascii_uppercase name) && not (list_any (same_name name) words)
+    (list_any (λ row. same_name row.name name) signatures || list_any (same_name name) lambda_functions)
+      && all_letters (str_to_ascii_uppercase name) && not (list_any (same_name name) words)
 
 -- the functions that choose or catch, which SAFE doesn't take
 abbrev pub special : List (List ℕ)

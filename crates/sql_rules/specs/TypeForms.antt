@@ -212,12 +212,6 @@ abbrev pub array_literal : ℕ → ℕ → List Arg → Checked Arg
 array_literal place open_place [] = empty_array
 array_literal place open_place (a ∷ arguments) = common_type open_place (supertype (a ∷ arguments)) >>= (λ element. array_of place element >>= other)
 
--- each of some expressions has the type that is needed, from left to right; each comes with its place
-abbrev pub each_needed : List SqlType → List (ℕ × Arg) → Checked (Unit {0})
-each_needed types [] = Ok tt
-each_needed [] (a ∷ arguments) = Ok tt
-each_needed (type ∷ types) (a ∷ arguments) = needed type a.0 a.1 >>= (λ _. each_needed types arguments)
-
 -- the fields of a STRUCT, by their names and types
 abbrev pub struct_fields : List (Option (List ℕ)) → List Arg → List (Named SqlType)
 struct_fields names [] = []

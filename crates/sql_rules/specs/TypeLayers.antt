@@ -49,7 +49,7 @@ use Rattle.sql_rules.specs.Checks.{Checked, ◌>>=◌, broken, unless, in_turn, 
 use Rattle.sql_rules.specs.Sights.{Sight, CteColumns, inside, with_cte, for_struct, last_cte}
 use Rattle.sql_rules.specs.Places.{place_of, implied_name, single_name, integer_literal}
 use Rattle.sql_rules.specs.TypeNames.{written_type, field_types, is_array}
-use Rattle.sql_rules.specs.TypeForms.{literal, other, other_arg, untyped, type_of, needed, condition, integer_type, integer_value, date_literal, operator_type, operator_name, comparison_name, test_name, not_type, prefix_type, common_type, compared_type, element_of, field_type, cast_type, array_of, array_literal, each_needed, struct_fields, one_column}
+use Rattle.sql_rules.specs.TypeForms.{literal, other, other_arg, untyped, type_of, needed, condition, integer_type, integer_value, date_literal, operator_type, operator_name, comparison_name, test_name, not_type, prefix_type, common_type, compared_type, element_of, field_type, cast_type, array_of, array_literal, struct_fields, one_column}
 use Rattle.sql_rules.specs.Paths.{leading_names, path_type, path_element}
 use Rattle.sql_rules.specs.FromScopes.{FromScope, no_from, columns_scope, unnest_scope, beside, repeats_range, UsingColumn, using_columns, using_scope}
 use Rattle.sql_rules.specs.TypeCalls.{Defined, a_view, a_function, Written, expression, interval, call_type, safe_call_type, extract_type, has_modifier, part_arg, part_place}
@@ -221,9 +221,6 @@ module _ (catalog : Entries) (definitions : List Defined) where
   module _ {E P T F J Q S : Type 0} (parts : Typings E P T F J Q S) where
     -- ---- expressions
 
-    abbrev pub typed_with_place : E → Sight → Checked (ℕ × Arg)
-    typed_with_place e sight = parts.expr e sight >>= (λ a. Ok (place_of (parts.tree e), a))
-
     -- a condition: BOOL
     abbrev pub condition_layer : E → Sight → Checked (Unit {0})
     condition_layer e sight = parts.expr e sight >>= condition (place_of (parts.tree e))
@@ -248,21 +245,27 @@ module _ (catalog : Entries) (definitions : List Defined) where
     abbrev pub subquery : Q → Sight → Checked Columns
     subquery q sight = parts.query q (for_struct true sight)
 
-    -- the parts of a postfix behind what was read, which is typed and begins at this place
-    abbrev pub parts_layer : ℕ → SqlType → List (Part E) → Sight → Checked SqlType
-    parts_layer place type [] sight = Ok type
-    parts_layer place type (part.Field name ∷ more) sight = field_type name type >>= (λ field. parts_layer place field more sight)
-    parts_layer place type (part.Index form index open_place ∷ more) sight =
-        element_of place type >>= (λ element. parts.expr index sight >>= (λ i. needed ty.Int64 (place_of (parts.tree index)) i >>= (λ _. parts_layer place element more sight)))
+    -- The parts of a postfix, which begins at a place, behind what was read, which is typed and begins at another where it
+    -- stood in brackets. An array that a subscript is on is what stands before it.
+    abbrev pub parts_layer : ℕ → ℕ → SqlType → List (Part E) → Sight → Checked SqlType
+    parts_layer place own type [] sight = Ok type
+    parts_layer place own type (part.Field name ∷ more) sight = field_type name type >>= (λ field. parts_layer place place field more sight)
+    parts_layer place own type (part.Index form index open_place ∷ more) sight =
+        element_of own type >>= (λ element. parts.expr index sight >>= (λ i. needed ty.Int64 (place_of (parts.tree index)) i >>= (λ _. parts_layer place place element more sight)))
 
     -- a path: what its first names denote, and fields and subscripts behind
-    abbrev pub path_layer : ℕ → List ℕ → List (Part E) → Sight → Checked Arg
-    path_layer place first more sight =
-        path_type place sight.levels (found sight.levels first (leading_names more)) >>= (λ bound. parts_layer place bound.0 (drop bound.1 more) sight >>= other)
+    abbrev pub path_layer : ℕ → ℕ → List ℕ → List (Part E) → Sight → Checked Arg
+    path_layer place own first more sight =
+        path_type own sight.levels (found sight.levels first (leading_names more)) >>= (λ bound. parts_layer place own bound.0 (drop bound.1 more) sight >>= other)
+
+    -- a name alone in brackets begins inside them, and a longer path with its first byte
+    abbrev pub path_place : ℕ → ℕ → List (List ℕ) → ℕ
+    path_place place own [] = own
+    path_place place own (name ∷ names) = place
 
     abbrev pub postfix_layer : ℕ → Option (List ℕ) → E → List (Part E) → Sight → Checked Arg
-    postfix_layer place (Some name) first more sight = path_layer place name more sight
-    postfix_layer place None first more sight = parts.expr first sight >>= (λ a. parts_layer (place_of (parts.tree first)) (type_of a) more sight >>= other)
+    postfix_layer place (Some name) first more sight = path_layer place (path_place place (place_of (parts.tree first)) (leading_names more)) name more sight
+    postfix_layer place None first more sight = parts.expr first sight >>= (λ a. parts_layer place (place_of (parts.tree first)) (type_of a) more sight >>= other)
 
     -- ---- calls
 
@@ -346,13 +349,16 @@ module _ (catalog : Entries) (definitions : List Defined) where
 
     -- ---- typed arrays and STRUCTs
 
-    abbrev pub items_with_places : List E → Sight → Checked (List (ℕ × Arg))
-    items_with_places es sight = in_turn (map (λ e. typed_with_place e sight) es)
-
     -- each element has the type that is needed, as soon as it is typed
     abbrev pub elements_layer : SqlType → List E → Sight → Checked (Unit {0})
     elements_layer type [] sight = Ok tt
     elements_layer type (e ∷ es) sight = parts.expr e sight >>= (λ a. needed type (place_of (parts.tree e)) a >>= (λ _. elements_layer type es sight))
+
+    -- each expression has its field's type, as soon as it is typed
+    abbrev pub fields_layer : List (Named SqlType) → List E → Sight → Checked (Unit {0})
+    fields_layer fields [] sight = Ok tt
+    fields_layer [] (e ∷ es) sight = parts.expr e sight >>= (λ a. fields_layer [] es sight)
+    fields_layer (f ∷ fields) (e ∷ es) sight = parts.expr e sight >>= (λ a. needed f.ty (place_of (parts.tree e)) a >>= (λ _. fields_layer fields es sight))
 
     abbrev pub aliased_args : List (Aliased E) → Sight → Checked (List Arg)
     aliased_args [] sight = Ok []
@@ -400,7 +406,7 @@ module _ (catalog : Entries) (definitions : List Defined) where
     expr_layer (ast.Date text place) sight = date_literal place text
     -- no such parameter: rule 23
     expr_layer (ast.Parameter name place) sight = elim (param_type catalog name) [ None ↦ broken 23 place | Some type ↦ Ok (record { ty = Some type; kind = kind.Parameter }) ]
-    expr_layer (ast.Name name place) sight = path_layer place name [] sight
+    expr_layer (ast.Name name place) sight = path_layer place place name [] sight
     expr_layer (ast.Call call place) sight = call_layer call sight
     expr_layer (ast.SafeCall call place) sight = safe_call_layer call sight
     expr_layer (ast.Scalar query place) sight = subquery query sight >>= one_column place >>= other
@@ -416,12 +422,11 @@ module _ (catalog : Entries) (definitions : List Defined) where
     expr_layer (ast.Array (Some type) es open_place place) sight =
         written_type type >>= array_of place >>= (λ array. element_of place array >>= (λ element. elements_layer element es sight >>= (λ _. other array)))
     expr_layer (ast.Struct fields place) sight = aliased_args fields sight >>= (λ arguments. other (ty.Struct (struct_fields (aliased_names fields) arguments)))
-    -- as many expressions as fields (rule 18 at the bracket), each of its field's type
+    -- each expression has its field's type, and there are as many as fields (rule 18 at the bracket)
     expr_layer (ast.TypedStruct fields es open_place place) sight =
         field_types (map (λ f. record { name = f.name; ty = written_type f.ty }) fields) >>= (λ types.
-        items_with_places es sight >>= (λ arguments.
-        unless (not (length types == length arguments)) 18 open_place >>= (λ _.
-        each_needed (map (λ f. f.ty) types) arguments >>= (λ _. other (ty.Struct types)))))
+        fields_layer types es sight >>= (λ _.
+        unless (not (length types == length es)) 18 open_place >>= (λ _. other (ty.Struct types))))
     expr_layer (ast.With bindings result place) sight =
         bindings_layer bindings [] sight >>= (λ scope. parts.expr result (inside sight scope) >>= (λ a. other (type_of a)))
 
