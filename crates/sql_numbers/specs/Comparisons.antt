@@ -7,7 +7,7 @@ use Rattle.sql_types.specs.declared.value.Value.TheVariants as value
 use Rattle.sql_types.specs.declared.fault.FaultKind.TheVariants as fault
 use Rattle.sql_types.specs.Before.{is_null, order}
 use Rattle.sql_types.specs.Same.{equal, both_true}
-use Rattle.sql_types.specs.Same as same
+use Rattle.sql_types.specs.SameValue.{same_value}
 use Rattle.sql_types.specs.Logic.{opposite, either_true, truth_of, of_truth}
 use Rattle.sql_types.specs.Outcome.{Outcome}
 use Rattle.sql_types.specs.Takes.{strict}
@@ -29,7 +29,7 @@ apply_ne _ = Ok value.Null
 
 -- IS DISTINCT FROM: two NULLs are the same, and the answer is never NULL
 abbrev pub apply_distinct : List Value → Outcome Value
-apply_distinct (x ∷ y ∷ []) = Ok value.Null
+apply_distinct (x ∷ y ∷ []) = Ok (value.Bool (not (same_value x y)))
 apply_distinct _ = Ok value.Null
 
 -- ---- order

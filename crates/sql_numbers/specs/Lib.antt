@@ -1,3 +1,4 @@
 pub mod Integers
 pub mod Comparisons
 pub mod Arrays
+pub mod Results

@@ -1,0 +1,7 @@
+-- The one chosen so far, beside those that are left.
+use Rattle.std.proofs.Common.{◌≡◌, drop}
+use Rattle.sql_numbers.specs.Comparisons as rows
+use Rattle.sql_numbers.proofs.extremes.greatest.Given as goal
+
+abbrev pub invariant-loop-value : goal.invariant-loop-value
+invariant-loop-value l = rows.chosen rows.greater_of l.chosen (drop l.value-index l.rest) ≡ rows.chosen rows.greater_of l.first l.rest
