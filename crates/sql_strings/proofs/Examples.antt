@@ -8,7 +8,7 @@ use Rattle.sql_types.specs.declared.fault.FaultKind.TheVariants as fault
 use Rattle.sql_strings.specs.Texts.{part_at, from_place, first_place, place_of, split_text, replaced}
 use Rattle.sql_strings.specs.Patterns.{like}
 use Rattle.sql_strings.specs.Hex.{from_hex}
-use Rattle.sql_strings.specs.Rows.{string_kind, apply_substr, apply_length}
+use Rattle.sql_strings.specs.Rows.{string_kind, apply_substr, apply_length, apply_trim}
 
 -- SUBSTR('abc', -5, 2) begins at the first character
 before_the_start : part_at (negsuc 4) 2 (codes "abc") ≡ codes "ab"
@@ -53,3 +53,24 @@ any_text_matches = refl
 
 nothing_to_escape : like (codes "zzz") (97 ∷ 92 ∷ []) ≡ Err fault.Pattern
 nothing_to_escape = refl
+
+-- a `%` takes as much as is needed, and a backslash makes it stand for itself
+tried_again : like (codes "aaab") (codes "%ab") ≡ Ok true
+tried_again = refl
+
+escaped : like (codes "a%b") (97 ∷ 92 ∷ 37 ∷ 98 ∷ []) ≡ Ok true
+escaped = refl
+
+-- SPLIT('', '') is one empty piece
+one_empty_piece : split_text [] [] ≡ [] ∷ []
+one_empty_piece = refl
+
+-- TRIM('xax', 'x')
+both_ends : apply_trim (value.Text (codes "xax") ∷ value.Text (codes "x") ∷ []) ≡ Ok (value.Text (codes "a"))
+unfolding out-Value out chars
+both_ends = refl
+
+-- REPEAT('', -1)
+negative_times : apply_repeat value.Text (value.Text [] ∷ value.Int (negsuc 0) ∷ []) ≡ Err fault.Argument
+unfolding out-Value out
+negative_times = refl

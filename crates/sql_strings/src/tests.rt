@@ -62,30 +62,30 @@ fn parts_of_texts(rt: HostRuntime) -> Result<(), Fail> {
     let alloc = rt.alloc();
     for (content, place, count, want) in PARTS {
         let got = match count {
-            None => substr_string_int64_int64(alloc, &[text(alloc, content)?, number(Some(place))]),
-            Some(_) => {
-                let values = [text(alloc, content)?, number(Some(place)), number(count)];
+            None => substr_string_int64_int64(alloc, &[text(alloc, content)?, number(place)]),
+            Some(count) => {
+                let values = [text(alloc, content)?, number(place), number(count)];
                 substr_string_int64_int64(alloc, &values)
             }
         };
         assert_eq!(rt; shown(alloc, got)?.as_str(), want);
     }
-    let values = [text(alloc, "a")?, number(None), number(Some(-1))];
+    let values = [text(alloc, "a")?, no_number(), number(-1)];
     assert_eq!(rt;
         shown(alloc, substr_string_int64_int64(alloc, &values))?.as_str(),
         "\\N"
     );
-    let values = [bytes(alloc, "\u{e9}a")?, number(Some(3))];
+    let values = [bytes(alloc, "\u{e9}a")?, number(3)];
     assert_eq!(rt;
         shown(alloc, substr_bytes_int64_int64(alloc, &values))?.as_str(),
         "a"
     );
-    let values = [bytes(alloc, "\u{e9}a")?, number(Some(-3)), number(Some(1))];
+    let values = [bytes(alloc, "\u{e9}a")?, number(-3), number(1)];
     assert_eq!(rt;
         shown(alloc, substr_bytes_int64_int64(alloc, &values))?.as_str(),
         "195 "
     );
-    let values = [bytes(alloc, "a")?, number(Some(1)), number(Some(-1))];
+    let values = [bytes(alloc, "a")?, number(1), number(-1)];
     assert_eq!(rt;
         shown(alloc, substr_bytes_int64_int64(alloc, &values))?.as_str(),
         "ARGUMENT"
@@ -201,14 +201,14 @@ fn pieces(rt: HostRuntime) -> Result<(), Fail> {
 }
 
 /// A text, a count, and the text so many times.
-const REPEATED: [(&str, Option<i64>, &str); 7] = [
-    ("ab", Some(3), "ababab"),
-    ("\u{e9}", Some(0), ""),
-    ("", Some(i64::MAX), ""),
-    ("", Some(-1), "ARGUMENT"),
-    ("\u{e9}", Some(524_289), "OUT_OF_RANGE"),
-    ("ab", Some(i64::MAX), "OUT_OF_RANGE"),
-    ("\\N", Some(-1), "\\N"),
+const REPEATED: [(&str, i64, &str); 7] = [
+    ("ab", 3, "ababab"),
+    ("\u{e9}", 0, ""),
+    ("", i64::MAX, ""),
+    ("", -1, "ARGUMENT"),
+    ("\u{e9}", 524_289, "OUT_OF_RANGE"),
+    ("ab", i64::MAX, "OUT_OF_RANGE"),
+    ("\\N", -1, "\\N"),
 ];
 
 #[test]
@@ -226,7 +226,7 @@ fn repeated(rt: HostRuntime) -> Result<(), Fail> {
             want
         );
     }
-    let values = [text(alloc, "\u{e9}")?, number(Some(524_288))];
+    let values = [text(alloc, "\u{e9}")?, number(524_288)];
     assert_eq!(rt;
         shown(alloc, repeat_string_int64(alloc, &values))?.len(),
         1_048_576
@@ -469,17 +469,27 @@ fn bytes(alloc: Global, content: &str) -> Result<Value, AllocError>
     if content == "\\N" {
         return Ok(Value::Null);
     }
-    Ok(Value::Bytes(Items::from_slice(alloc, content.as_bytes())?))
+    some_bytes(alloc, content.as_bytes())
 }
 
-/// An INT64, or NULL.
-fn number(number: Option<i64>) -> Value
+fn some_bytes(alloc: Global, content: &[u8]) -> Result<Value, AllocError>
+    ensures { IfOk result (λ v. fits types.Bytes v ≡ true) }
+{
+    Ok(Value::Bytes(Items::from_slice(alloc, content)?))
+}
+
+/// An INT64.
+fn number(number: i64) -> Value
     ensures { fits types.Int64 result ≡ true }
 {
-    match number {
-        Some(number) => Value::Int(number),
-        None => Value::Null,
-    }
+    Value::Int(number)
+}
+
+/// NULL as an INT64.
+fn no_number() -> Value
+    ensures { fits types.Int64 result ≡ true }
+{
+    Value::Null
 }
 
 fn counted(alloc: Global, answer: Result<Value, FaultKind>) -> Result<String, AllocError> {
