@@ -8,7 +8,8 @@ use Rattle.sql_types.specs.declared.value.Value.TheVariants.{Null, rolls-Null}
 use Rattle.sql_types.specs.declared.value.Value.TheOpen as v
 use Rattle.sql_types.specs.Fits.{fits, fits_layer, is_day}
 use Rattle.sql_types.proofs.Opens.{fits-opens}
-use Rattle.sql_dates.specs.Arguments.{fits_types, date_form, date_at, HasDates}
+use Rattle.sql_types.specs.Takes.{fits_types}
+use Rattle.sql_dates.specs.Arguments.{date_form, date_at, HasDates}
 
 day-layer : (ty : t.SqlType-F (Value → Bool)) (x : v.Value-F Value) → fits_layer ty x ≡ true → IfSome (date_form x) (λ day. is_day day ≡ true)
 day-layer t.Date (v.Date day) is = is

@@ -3,3 +3,4 @@ pub mod ArgumentLaws
 pub mod FitLaws
 pub mod RowLaws
 mod PartExamples
+pub mod PartLaws

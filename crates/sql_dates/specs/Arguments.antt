@@ -12,13 +12,6 @@ use Rattle.sql_dates.specs.declared.part.DatePart.{DatePart}
 use Rattle.sql_dates.specs.declared.part.DateField.{DateField}
 use Rattle.sql_dates.specs.Parts.{part_named, field_named}
 
--- one value of each type
-abbrev pub fits_types : List SqlType → List Value → Bool
-fits_types [] [] = true
-fits_types [] (x ∷ xs) = false
-fits_types (ty ∷ types) [] = false
-fits_types (ty ∷ types) (x ∷ xs) = fits ty x && fits_types types xs
-
 abbrev pub argument : List Value → ℕ → v.Value-F Value
 argument values place = out-Value (slice_index_or values place Null)
 

@@ -3,7 +3,8 @@
 ghost use Rattle.std.specs.Prelude.{◌≡◌, [], ◌∷◌, true, IsSome};
 ghost use Rattle.sql_types.specs.declared.sql_type.SqlType.TheVariants as ty;
 ghost use Rattle.sql_dates.specs.Apply as rows;
-ghost use Rattle.sql_dates.specs.Arguments.{fits_types, part_at, field_at, answered};
+ghost use Rattle.sql_dates.specs.Arguments.{answered, field_at, part_at};
+ghost use Rattle.sql_types.specs.Takes.{fits_types};
 
 use crate::answer::dated;
 use crate::argument::{date_at, field_at, int_at, part_at};
