@@ -136,7 +136,7 @@ abbrev pub is_empty : {A : Type 0} → List A → Bool
 is_empty [] = true
 is_empty (x ∷ xs) = false
 
--- the type of the last replacement of a column's name
+-- the type of the replacement of a column's name
 abbrev pub replaced_type : List (List ℕ × SqlType) → Option (List ℕ) → Option SqlType
 replaced_type replaced None = None
 replaced_type [] (Some name) = None
