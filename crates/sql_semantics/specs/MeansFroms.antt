@@ -16,9 +16,9 @@ use Rattle.sql_ast.specs.declared.query.JoinWord.{JoinWord}
 use Rattle.sql_ast.specs.declared.query.JoinWord.TheVariants as join
 use Rattle.sql_coerce.specs.Casts.{converted}
 use Rattle.sql_rules.specs.declared.scope.Entry.{Entry}
-use Rattle.sql_rules.specs.Environments.{Row}
-use Rattle.sql_rules.specs.FromScopes.{UsingColumn, fields_layer, entry_type}
-use Rattle.sql_rules.specs.MeansForms.{is_true, field_values}
+use Rattle.sql_semantics.specs.Environments.{Row}
+use Rattle.sql_semantics.specs.FromScopes.{UsingColumn, fields_layer, entry_type}
+use Rattle.sql_semantics.specs.MeansForms.{is_true, field_values}
 
 -- a range variable stands behind the columns, and has no value
 abbrev pub with_range : Option (List ℕ) → Row → Row

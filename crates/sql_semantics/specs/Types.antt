@@ -18,13 +18,13 @@ use Rattle.sql_catalog.specs.declared.entries.Written.{Written}
 use Rattle.sql_catalog.specs.declared.entries.Written.TheVariants as written
 use Rattle.sql_rules.specs.declared.scope.Entry.{Entry}
 use Rattle.sql_rules.specs.declared.scope.What.TheVariants as what
-use Rattle.sql_rules.specs.Checks.{Checked, ◌>>=◌, broken}
-use Rattle.sql_rules.specs.Sights.{Sight, nothing_in_sight, inside, for_struct}
-use Rattle.sql_rules.specs.FromScopes.{FromScope}
-use Rattle.sql_rules.specs.Unbuilt.{unbuilt_query, unbuilt_expr}
-use Rattle.sql_rules.specs.TypeForms.{type_of}
-use Rattle.sql_rules.specs.TypeCalls.{Defined, a_view, a_function}
-use Rattle.sql_rules.specs.TypeLayers.{Typings, Columns, expr_layer, primary_layer, term_layer, from_layer, joined_layer, query_layer, select_layer}
+use Rattle.sql_semantics.specs.Checks.{Checked, ◌>>=◌, broken}
+use Rattle.sql_semantics.specs.Sights.{Sight, nothing_in_sight, inside, for_struct}
+use Rattle.sql_semantics.specs.FromScopes.{FromScope}
+use Rattle.sql_semantics.specs.Unbuilt.{unbuilt_query, unbuilt_expr}
+use Rattle.sql_semantics.specs.TypeForms.{type_of}
+use Rattle.sql_semantics.specs.TypeCalls.{Defined, a_view, a_function}
+use Rattle.sql_semantics.specs.TypeLayers.{Typings, Columns, expr_layer, primary_layer, term_layer, from_layer, joined_layer, query_layer, select_layer}
 
 abbrev pub AsExpr : Type 0
 AsExpr = Sight → Checked Arg

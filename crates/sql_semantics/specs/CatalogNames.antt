@@ -8,8 +8,8 @@ use Rattle.sql_catalog.specs.declared.entries.Definition.TheVariants.{View, Func
 use Rattle.sql_catalog.specs.declared.entries.Entries.{Entries}
 use Rattle.sql_catalog.specs.declared.entries.ParamDef.{ParamDef}
 use Rattle.sql_catalog.specs.declared.entries.TableDef.{TableDef}
-use Rattle.sql_rules.specs.Checks.{Checked}
-use Rattle.sql_rules.specs.TypeCalls.{Defined, a_view, a_function}
+use Rattle.sql_semantics.specs.Checks.{Checked}
+use Rattle.sql_semantics.specs.TypeCalls.{Defined, a_view, a_function}
 
 -- the columns of the table of a name
 abbrev pub table_among : List TableDef → List ℕ → Option (List (Named SqlType))

@@ -58,19 +58,19 @@ use Rattle.sql_rules.specs.declared.scope.Found.{Found}
 use Rattle.sql_rules.specs.declared.scope.Found.TheVariants.{Bound, Missing, Ambiguous}
 use Rattle.sql_rules.specs.declared.scope.Member.{Member}
 use Rattle.sql_rules.specs.Scopes.{found}
-use Rattle.sql_rules.specs.Checks.{Checked}
-use Rattle.sql_rules.specs.Sights.{last_cte, inside}
-use Rattle.sql_rules.specs.Places.{single_name, integer_literal}
-use Rattle.sql_rules.specs.TypeNames.{written_type}
-use Rattle.sql_rules.specs.TypeForms.{other_arg, type_of, integer_value, field_type, element_of, operator_name, prefix_name, comparison_name, test_name, is_minus, is_least}
-use Rattle.sql_rules.specs.Paths.{leading_names, path_type, path_element}
-use Rattle.sql_rules.specs.FromScopes.{FromScope, no_from, beside, UsingColumn, using_columns, using_scope}
-use Rattle.sql_rules.specs.TypeCalls.{Defined, part_arg, part_place, argument_types}
-use Rattle.sql_rules.specs.TypeLayers.{Columns, function_name, is_part, next_part, name_text, named_or, last_name, lists, replaced_type, columns_at, range_of, hides_left, seen_scope, variable_entry, member_columns, is_plain_select, is_plain_query}
-use Rattle.sql_rules.specs.Types.{TypeExpr, TypePrimary, TypeFrom, TypeJoined, TypeQuery}
-use Rattle.sql_rules.specs.Environments.{Row, Frame, Env, CteOutcome, within, with_outcome, sight_of, Reads}
-use Rattle.sql_rules.specs.MeansForms.{Operand, converted_to, converted_each, all_converted, args_of, is_true, is_null_value, operator_means, operator_operand, choice_means, safe_means, negated_means, among, list_means, single, is_empty, column_values, field_value, field_values, fields_of, subscript, pick}
-use Rattle.sql_rules.specs.MeansFroms.{with_range, unnested, join_kind, true_of, joined_each, is_equal, using_test, with_using}
+use Rattle.sql_semantics.specs.Checks.{Checked}
+use Rattle.sql_semantics.specs.Sights.{last_cte, inside}
+use Rattle.sql_semantics.specs.Places.{single_name, integer_literal}
+use Rattle.sql_semantics.specs.TypeNames.{written_type}
+use Rattle.sql_semantics.specs.TypeForms.{other_arg, type_of, integer_value, field_type, element_of, operator_name, prefix_name, comparison_name, test_name, is_minus, is_least}
+use Rattle.sql_semantics.specs.Paths.{leading_names, path_type, path_element}
+use Rattle.sql_semantics.specs.FromScopes.{FromScope, no_from, beside, UsingColumn, using_columns, using_scope}
+use Rattle.sql_semantics.specs.TypeCalls.{Defined, part_arg, part_place, argument_types}
+use Rattle.sql_semantics.specs.TypeLayers.{Columns, function_name, is_part, next_part, name_text, named_or, last_name, lists, replaced_type, columns_at, range_of, hides_left, seen_scope, variable_entry, member_columns, is_plain_select, is_plain_query}
+use Rattle.sql_semantics.specs.Types.{TypeExpr, TypePrimary, TypeFrom, TypeJoined, TypeQuery}
+use Rattle.sql_semantics.specs.Environments.{Row, Frame, Env, CteOutcome, within, with_outcome, sight_of, Reads}
+use Rattle.sql_semantics.specs.MeansForms.{Operand, converted_to, converted_each, all_converted, args_of, is_true, is_null_value, operator_means, operator_operand, choice_means, safe_means, negated_means, among, list_means, single, is_empty, column_values, field_value, field_values, fields_of, subscript, pick}
+use Rattle.sql_semantics.specs.MeansFroms.{with_range, unnested, join_kind, true_of, joined_each, is_equal, using_test, with_using}
 
 -- the rows of each table, by its number in the catalog
 abbrev pub TableRows : Type 0

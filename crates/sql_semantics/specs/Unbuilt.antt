@@ -23,7 +23,7 @@ use Rattle.sql_ast.specs.declared.expr.Expr.{Expr, fold-Expr}
 use Rattle.sql_ast.specs.declared.expr.Expr.TheOpen as ast
 use Rattle.sql_ast.specs.declared.expr.Expr.TheOpen.{Expr-F, Primary-F, Term-F, FromItem-F, Joined-F, Query-F, Select-F}
 use Rattle.sql_ast.specs.declared.query.Query.{Query, fold-Query}
-use Rattle.sql_rules.specs.TypeLayers.{function_name, is_plain_select, is_plain_query}
+use Rattle.sql_semantics.specs.TypeLayers.{function_name, is_plain_select, is_plain_query}
 
 abbrev pub some : {A : Type 0} → (A → Bool) → List A → Bool
 some holds [] = false

@@ -16,11 +16,11 @@ use Rattle.sql_catalog.specs.declared.entries.Definition.TheVariants.{View, Func
 use Rattle.sql_catalog.specs.declared.entries.Entries.{Entries}
 use Rattle.sql_catalog.specs.declared.entries.Written.{Written}
 use Rattle.sql_catalog.specs.declared.entries.Written.TheVariants as written
-use Rattle.sql_rules.specs.FromScopes.{FromScope}
-use Rattle.sql_rules.specs.TypeCalls.{Defined}
-use Rattle.sql_rules.specs.Types.{defined, argument_scope, definitions_of}
-use Rattle.sql_rules.specs.Environments.{Row, Frame, Env, empty_env, within}
-use Rattle.sql_rules.specs.MeansLayers.{TableRows, Meant, view_means, function_means, Meanings, expr_means, primary_means, term_means, from_means, joined_means, query_means, select_means}
+use Rattle.sql_semantics.specs.FromScopes.{FromScope}
+use Rattle.sql_semantics.specs.TypeCalls.{Defined}
+use Rattle.sql_semantics.specs.Types.{defined, argument_scope, definitions_of}
+use Rattle.sql_semantics.specs.Environments.{Row, Frame, Env, empty_env, within}
+use Rattle.sql_semantics.specs.MeansLayers.{TableRows, Meant, view_means, function_means, Meanings, expr_means, primary_means, term_means, from_means, joined_means, query_means, select_means}
 
 abbrev pub ME : Type 1
 ME = Env → Meaning Value

@@ -15,8 +15,8 @@ use Rattle.sql_rules.specs.declared.scope.What.{What}
 use Rattle.sql_rules.specs.declared.scope.What.TheVariants as what
 use Rattle.sql_rules.specs.Scopes.{is_range, is_named, members_of, ranges, columns}
 use Rattle.sql_rules.specs.Tables.{column_entries, members_from}
-use Rattle.sql_rules.specs.Checks.{Checked, ◌>>=◌, broken, unless}
-use Rattle.sql_rules.specs.TypeForms.{other_arg, compared_type}
+use Rattle.sql_semantics.specs.Checks.{Checked, ◌>>=◌, broken, unless}
+use Rattle.sql_semantics.specs.TypeForms.{other_arg, compared_type}
 
 -- The names of an item of FROM, or of several: a scope, and the places of its columns in the order of `*`.
 pub record FromScope : Type 0 where

@@ -7,7 +7,7 @@ use Rattle.sql_types.specs.Outcome.{Outcome, Meaning}
 use Rattle.sql_rules.specs.declared.scope.Entry.{Entry}
 use Rattle.sql_rules.specs.declared.scope.Found.{Found}
 use Rattle.sql_rules.specs.declared.scope.Found.TheVariants.{Bound, Missing, Ambiguous}
-use Rattle.sql_rules.specs.Sights.{Sight, CteColumns}
+use Rattle.sql_semantics.specs.Sights.{Sight, CteColumns}
 
 abbrev pub Row : Type 0
 Row = List Value

@@ -25,7 +25,7 @@ use Rattle.sql_builtins.specs.declared.sig.SigId.TheVariants as sig
 use Rattle.sql_builtins.specs.Choices.{chosen}
 use Rattle.sql_builtins.specs.Applies.{apply}
 use Rattle.sql_numbers.specs.Integers.{or_null}
-use Rattle.sql_rules.specs.TypeForms.{other_arg, type_of, has_label}
+use Rattle.sql_semantics.specs.TypeForms.{other_arg, type_of, has_label}
 
 -- what an operand means, and how it is typed
 pub record Operand : Type 1 where

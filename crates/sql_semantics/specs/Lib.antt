@@ -1,0 +1,17 @@
+pub mod Checks
+pub mod Sights
+pub mod Places
+pub mod TypeNames
+pub mod TypeForms
+pub mod FromScopes
+pub mod Paths
+pub mod TypeCalls
+pub mod CatalogNames
+pub mod TypeLayers
+pub mod Unbuilt
+pub mod Types
+pub mod Environments
+pub mod MeansForms
+pub mod MeansFroms
+pub mod MeansLayers
+pub mod Meanings
