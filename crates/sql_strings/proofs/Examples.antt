@@ -8,7 +8,7 @@ use Rattle.sql_types.specs.declared.fault.FaultKind.TheVariants as fault
 use Rattle.sql_strings.specs.Texts.{part_at, from_place, first_place, place_of, split_text, replaced}
 use Rattle.sql_strings.specs.Patterns.{like}
 use Rattle.sql_strings.specs.Hex.{from_hex}
-use Rattle.sql_strings.specs.Rows.{string_kind, apply_substr, apply_length, apply_trim}
+use Rattle.sql_strings.specs.Rows.{string_kind, apply_substr, apply_length, apply_repeat}
 
 -- SUBSTR('abc', -5, 2) begins at the first character
 before_the_start : part_at (negsuc 4) 2 (codes "abc") ≡ codes "ab"
@@ -64,11 +64,6 @@ escaped = refl
 -- SPLIT('', '') is one empty piece
 one_empty_piece : split_text [] [] ≡ [] ∷ []
 one_empty_piece = refl
-
--- TRIM('xax', 'x')
-both_ends : apply_trim (value.Text (codes "xax") ∷ value.Text (codes "x") ∷ []) ≡ Ok (value.Text (codes "a"))
-unfolding out-Value out chars
-both_ends = refl
 
 -- REPEAT('', -1)
 negative_times : apply_repeat value.Text (value.Text [] ∷ value.Int (negsuc 0) ∷ []) ≡ Err fault.Argument
