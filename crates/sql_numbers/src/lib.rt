@@ -9,6 +9,7 @@ pub mod choices;
 pub mod comparisons;
 pub mod divisions;
 pub mod extremes;
+pub mod joining;
 pub mod logic;
 mod results;
 pub mod safe;
@@ -33,6 +34,7 @@ pub use comparisons::{
 };
 pub use divisions::{div_int64_int64, div_uint64_uint64, mod_int64_int64, mod_uint64_uint64};
 pub use extremes::{greatest_any, least_any};
+pub use joining::{array_concat_array, array_reverse_array, join_array_array};
 pub use logic::{and_bool_bool, is_false_bool, is_null_any, is_true_bool, not_bool, or_bool_bool};
 pub use safe::{
     safe_add_int64_int64, safe_add_uint64_uint64, safe_multiply_int64_int64,
