@@ -1,4 +1,5 @@
 pub mod Table
 pub mod Choices
+pub mod Steps
 pub mod Seen
 pub mod Applies
