@@ -13,9 +13,7 @@ use Rattle.sql_types.specs.SameType.{same_type}
 use Rattle.sql_coerce.specs.Coercions.{coerces}
 use Rattle.sql_coerce.specs.Supertypes.{supertype}
 use Rattle.sql_builtins.specs.declared.sig.SigId.{SigId}
-use Rattle.sql_builtins.specs.declared.applied.Applied.{Applied}
 use Rattle.sql_builtins.specs.declared.choice.Choice.{Choice}
-use Rattle.sql_builtins.specs.declared.cost.Cost.{Cost}
 use Rattle.sql_builtins.specs.declared.table.Slot.{Slot}
 use Rattle.sql_builtins.specs.declared.table.Slot.TheVariants as slot
 use Rattle.sql_builtins.specs.declared.table.Repeats.{Repeats}
@@ -124,7 +122,10 @@ meets needs.Orderable ty = orderable ty
 
 -- ---- what a choice costs
 
--- A cost is the coercions of arguments that aren't literals, and those of literals.
+-- the coercions of arguments that aren't literals, and those of literals
+pub record Cost : Type 0 where
+  pub others : ℕ
+  pub literals : ℕ
 
 abbrev pub more_others : Cost → Cost
 more_others cost = record cost { others = suc cost.others }
@@ -148,6 +149,11 @@ abbrev pub cheaper : Cost → Cost → Bool
 cheaper a b = nat_lt a.others b.others || (a.others == b.others && nat_lt a.literals b.literals)
 
 -- ---- rows that apply
+
+-- a choice and its cost
+pub record Applied : Type 0 where
+  pub choice : Choice
+  pub cost : Cost
 
 -- by the places and the types that the row leaves open
 abbrev pub applied_by : Signature → List Arg → List Slot → SqlType → SqlType → Option Applied
@@ -184,11 +190,7 @@ abbrev pub rows_of : List ℕ → List Signature → List Signature
 rows_of name [] = []
 rows_of name (row ∷ rows) = if str_eq_ignore_ascii_case row.name name then row ∷ rows_of name rows else rows_of name rows
 
-abbrev pub choice_in : Option Applied → Option Choice
-choice_in None = None
-choice_in (Some a) = Some a.choice
-
 -- Among the rows of this name that apply, the one with the fewest coercions of arguments that aren't literals, then with the
 -- fewest of literals, then the first; or none.
 unfoldable pub chosen : List ℕ → List Arg → Option Choice
-chosen name arguments = choice_in (cheapest (filter_map (applied arguments) (rows_of name signatures)))
+chosen name arguments = option_map (λ a. a.choice) (cheapest (filter_map (applied arguments) (rows_of name signatures)))
