@@ -1,9 +1,8 @@
-use Rattle.std.proofs.Common.{rules, arith, ◌≡◌, ◌∙◌, [], ◌∷◌, ℕ, ℤ, pos, ◌+ℤ◌, ◌*ℤ◌, ◌+◌, ◌++◌, FitsSigned, to_z, of_z}
+use Rattle.std.proofs.Common.{rules, arith, ◌≡◌, ◌∙◌, [], ◌∷◌, ◌+ℤ◌, ◌++◌, FitsSigned, to_z, of_z}
 use Rattle.std.proofs.lemmas.Int.{ints, to_z-of_z}
 use Rattle.std.specs.Int.{w64, w128}
 use Rattle.sql_types.specs.declared.value.Value.TheVariants as value
 use Rattle.sql_numbers.proofs.StepLaws.{one_more, one_further}
-use Rattle.sql_numbers.specs.Arrays as rows
 use Rattle.sql_numbers.proofs.generated.in_steps.Goals as goal
 
 pub loop-preserved : goal.loop-preserved
