@@ -5,7 +5,6 @@ use Rattle.std.proofs.Math.IntN.{suc_ℤ-*ℤ}
 use Rattle.std.proofs.Math.Nat.{div-mul-le_self, mul-le-mul_right}
 use Rattle.sql_types.specs.declared.value.Value.{Value}
 use Rattle.sql_types.specs.declared.value.Value.TheVariants as value
-use Rattle.sql_types.specs.Takes.{number}
 use Rattle.sql_numbers.specs.Arrays as rows
 
 -- one step more
@@ -32,10 +31,10 @@ one_further first step number k next = let h : pos (suc k) *ℤ step ≡ pos k *
 -- no step leads past the end
 no_further : (distance : ℤ) (size k : ℕ) → k < rows.steps distance size → pos (k * size) ≤ℤ distance
 no_further (pos d) size k h =
-  let small : k ≤ d / size = omega arith in
-  let times : k * size ≤ d / size * size = mul-le-mul_right size small in
-  let whole : d / size * size ≤ d = div-mul-le_self d size in
-  omega (arith, ints)
+    let small : k ≤ d / size = omega arith in
+    let times : k * size ≤ d / size * size = mul-le-mul_right size small in
+    let whole : d / size * size ≤ d = div-mul-le_self d size in
+    omega (arith, ints)
 no_further (negsuc less) size k h = absurd (omega arith)
 
 between_fits : (a z b : ℤ) → FitsSigned w64 a → FitsSigned w64 b → a ≤ℤ z → z ≤ℤ b → FitsSigned w64 z
@@ -44,13 +43,9 @@ between_fits a z b low high from to = omega (arith, ints)
 -- each number from the first to the last is an INT64
 pub step_fits : (first last step : ℤ) → FitsSigned w64 first → FitsSigned w64 last → (k : ℕ) → k < rows.number_of_steps first last step → FitsSigned w64 (first +ℤ pos k *ℤ step)
 step_fits first last (pos size) low high k h =
-  let reach : pos (k * size) ≤ℤ (last -ℤ first) = no_further (last -ℤ first) size k h in
-  between_fits first (first +ℤ pos (k * size)) last low high (omega (arith, ints)) (omega (arith, ints))
+    let reach : pos (k * size) ≤ℤ (last -ℤ first) = no_further (last -ℤ first) size k h in
+    between_fits first (first +ℤ pos (k * size)) last low high (omega (arith, ints)) (omega (arith, ints))
 step_fits first last (negsuc less) low high k h =
-  let reach : pos (k * suc less) ≤ℤ (first -ℤ last) = no_further (first -ℤ last) (suc less) k h in
-  let same : pos k *ℤ negsuc less +ℤ pos (k * suc less) ≡ pos 0 = omega (arith, ints) in
-  between_fits last (first +ℤ pos k *ℤ negsuc less) first high low (omega (arith, ints)) (omega (arith, ints))
-
--- a row of three
-pub row_of_three : (first last step : Value) (a b c : ℤ) → a ≡ number first → b ≡ number last → c ≡ number step → rows.generate_row (first ∷ last ∷ step ∷ []) ≡ rows.generated a b c
-row_of_three first last step a b c is-a is-b is-c = rw (is-a, is-b, is-c) refl
+    let reach : pos (k * suc less) ≤ℤ (first -ℤ last) = no_further (first -ℤ last) (suc less) k h in
+    let same : pos k *ℤ negsuc less +ℤ pos (k * suc less) ≡ pos 0 = omega (arith, ints) in
+    between_fits last (first +ℤ pos k *ℤ negsuc less) first high low (omega (arith, ints)) (omega (arith, ints))
