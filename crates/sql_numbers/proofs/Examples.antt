@@ -1,11 +1,11 @@
 -- Worked examples of the definitions, by computation.
-use Rattle.std.proofs.Common.{◌≡◌, refl, ℤ, pos, negsuc, true, false, List, [], ◌∷◌, Ok, Err}
+use Rattle.std.proofs.Common.{◌≡◌, refl, pos, negsuc, false, [], ◌∷◌, Ok, Err}
 use denote.Hole.Carrier.{out}
 use Rattle.sql_types.specs.declared.value.Value.{out-Value}
 use Rattle.sql_types.specs.declared.value.Value.TheVariants as value
 use Rattle.sql_types.specs.declared.fault.FaultKind.TheVariants as fault
-use Rattle.sql_types.specs.Takes.{as_int64, as_uint64}
-use Rattle.sql_numbers.specs.Integers.{int64_bits, apply_sub, apply_div, apply_mod, apply_shr, apply_shl}
+use Rattle.sql_types.specs.Takes.{as_int64}
+use Rattle.sql_numbers.specs.Integers.{int64_bits, apply_sub, apply_div, apply_mod, apply_shr}
 use Rattle.sql_numbers.specs.Comparisons.{apply_between}
 use Rattle.sql_numbers.specs.Arrays.{number_of_steps, generated}
 

@@ -1,3 +1,4 @@
 mod Examples
 mod NumberLaws
+mod StepLaws
 mod ValueLaws

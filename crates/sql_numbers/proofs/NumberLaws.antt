@@ -1,17 +1,12 @@
 -- Which numbers the two types have.
-use Rattle.std.proofs.Common.{◌≡◌, ℕ, zero, suc, ◌<◌, ◌≤◌, ◌^◌, ◌-◌, ◌%◌, ◌/◌, Bool, true, false, ◌&&◌, ℤ, pos, negsuc, neg_ℤ, Option, None, Some, Ok, Err, refl, sym, ap, ◌∙◌, arith, FitsSigned, w64, subst, ◌≤ℤ◌}
-use Rattle.std.specs.Prelude.{SomeIff, int_le, nat_lt, nat_le, nat_abs, unsigned_abs, int_div, int_rem, if◌then◌else◌, ◌==◌, min}
-use Rattle.std.specs.Int.{int_signum, IsNonZero, CanDivide}
-use Rattle.std.proofs.lemmas.Int.{ints}
+use Rattle.std.proofs.Common.{◌≡◌, ℕ, ◌<◌, ◌^◌, Bool, true, false, ℤ, pos, negsuc, Option, None, Some, Ok, Err, refl, sym, ap, ◌∙◌, arith, FitsSigned, w64}
+use Rattle.std.specs.Prelude.{SomeIff, nat_lt, if◌then◌else◌}
 use Rattle.std.proofs.lemmas.Grind.{common_steps}
-use Rattle.sql_types.specs.declared.value.Value.{Value}
 use Rattle.sql_types.specs.declared.value.Value.TheVariants as value
 use Rattle.sql_types.specs.declared.fault.FaultKind.TheVariants as fault
 use Rattle.sql_types.specs.Fits.{within}
-use Rattle.sql_types.specs.Outcome.{Outcome}
 use Rattle.sql_types.specs.Takes.{as_int64, as_uint64}
 use Rattle.sql_numbers.specs.Results.{int_or_fault, uint_or_fault}
-use Rattle.sql_numbers.specs.Integers.{unless_zero}
 
 abbrev in_int64 : ℤ → Bool
 in_int64 = within (negsuc 9223372036854775807) (pos 9223372036854775807)

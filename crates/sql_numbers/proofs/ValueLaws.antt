@@ -1,10 +1,10 @@
 -- What values that fit a type say.
-use Rattle.std.proofs.Common.{◌≡◌, ℕ, Bool, true, List, [], refl, ap, sym, ◌∙◌}
+use Rattle.std.proofs.Common.{◌≡◌, ℕ, Bool, true, refl, ap, sym, ◌∙◌}
 use Rattle.std.specs.Prelude.{ℤ, pos}
 use Rattle.sql_types.specs.declared.sql_type.SqlType.{SqlType, out-SqlType, map-SqlType, out-roll-SqlType}
 use Rattle.sql_types.specs.declared.sql_type.SqlType.TheVariants as types
 use Rattle.sql_types.specs.declared.sql_type.SqlType.TheOpen as t
-use Rattle.sql_types.specs.declared.value.Value.{Value, roll-Value, out-Value, roll-out-Value, out-roll-Value}
+use Rattle.sql_types.specs.declared.value.Value.{Value, roll-Value, out-Value, roll-out-Value}
 use Rattle.sql_types.specs.declared.value.Value.TheVariants as value
 use Rattle.sql_types.specs.declared.value.Value.TheOpen as v
 use Rattle.sql_types.specs.Fits.{fits, fits_layer}

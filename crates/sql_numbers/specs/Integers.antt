@@ -1,12 +1,12 @@
 -- The functions on integers, a row each: what its call answers for values that fit the row. The numbers are whole numbers
 -- of any size, and a result past its type is OUT_OF_RANGE.
-use Rattle.std.specs.Prelude.{ℕ, ◌*◌, ◌-◌, ◌/◌, ◌%◌, ◌^◌, ℤ, pos, negsuc, neg_ℤ, nat_abs, ◌+ℤ◌, ◌-ℤ◌, ◌*ℤ◌, int_div, int_rem, bit_and, bit_or, bit_xor, nat_lt, ◌==◌, Bool, true, false, if◌then◌else◌, List, [], ◌∷◌, Result, Ok, Err}
+use Rattle.std.specs.Prelude.{ℕ, ◌*◌, ◌-◌, ◌/◌, ◌%◌, ◌^◌, ℤ, pos, negsuc, neg_ℤ, nat_abs, ◌+ℤ◌, ◌-ℤ◌, ◌*ℤ◌, int_div, int_rem, bit_and, bit_or, bit_xor, nat_lt, ◌==◌, if◌then◌else◌, List, [], ◌∷◌, Ok, Err}
 use Rattle.std.specs.Int.{w64, cast_unsigned, cast_signed, int_signum}
 use Rattle.sql_types.specs.declared.value.Value.{Value}
 use Rattle.sql_types.specs.declared.value.Value.TheVariants as value
 use Rattle.sql_types.specs.declared.fault.FaultKind.TheVariants as fault
 use Rattle.sql_types.specs.Outcome.{Outcome}
-use Rattle.sql_types.specs.Takes.{strict, number, as_int64, as_uint64}
+use Rattle.sql_types.specs.Takes.{strict, number, as_int64}
 
 -- ---- the two types
 

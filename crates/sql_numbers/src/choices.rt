@@ -1,5 +1,5 @@
 //! The functions that choose one of their arguments, as rows over values.
-ghost use Rattle.std.specs.Prelude.{◌≡◌, IfOk, Err};
+ghost use Rattle.std.specs.Prelude.{◌≡◌, IfOk, Ok, Err};
 ghost use Rattle.sql_types.specs.Outcome.{Answers, just};
 ghost use Rattle.sql_numbers.specs.Comparisons as rows;
 
@@ -64,4 +64,34 @@ pub fn error_string(_: &[Value]) -> Result<Value, FaultKind>
     ensures { result ≡ Err FaultKind.User }
 {
     Err(FaultKind::User)
+}
+
+/// IFERROR of two values: the first. What it catches is a fault of its first argument, and a value has none.
+pub fn iferror_any_any(alloc: Global, values: &[Value]) -> Result<Value, CallFault>
+    ensures { Answers (just (rows.apply_iferror values.now)) result }
+{
+    match values {
+        [value, _] => Ok(copy_value(alloc, value)?),
+        _ => Ok(Value::Null),
+    }
+}
+
+/// NULLIFERROR of a value: the value.
+pub fn nulliferror_any(alloc: Global, values: &[Value]) -> Result<Value, CallFault>
+    ensures { Answers (just (rows.apply_nulliferror values.now)) result }
+{
+    match values {
+        [value] => Ok(copy_value(alloc, value)?),
+        _ => Ok(Value::Null),
+    }
+}
+
+/// ISERROR of a value: FALSE.
+pub fn iserror_any(values: &[Value]) -> Value
+    ensures { Ok result ≡ rows.apply_iserror values.now }
+{
+    match values {
+        [_] => Value::Bool(false),
+        _ => Value::Null,
+    }
 }

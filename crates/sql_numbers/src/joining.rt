@@ -62,8 +62,10 @@ fn reversed(alloc: Global, elements: &[Value]) -> Result<Values, AllocError>
     ensures { IfOk result (λ copies. copies ≡ reverse elements.now) }
 {
     let mut copies = Items::new(alloc);
-    for element in elements.iter().rev() {
-        copies.push(copy_value(alloc, element)?)?;
+    let mut rest = elements;
+    while let [before @ .., last] = rest {
+        copies.push(copy_value(alloc, last)?)?;
+        rest = before;
     }
     Ok(copies)
 }
