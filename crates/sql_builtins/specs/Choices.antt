@@ -70,8 +70,9 @@ first_element (a ∷ arguments) = elim (element_by a.ty a.kind) [ Some element �
 -- decide, by their supertype, which is INT64 where there are none.
 abbrev pub element_type : List Slot → List Arg → Option SqlType
 element_type slots arguments = elim (first_element (standing is_array_of_element slots arguments)) [
-    Some element ↦ Some element
-  | None ↦ supertype (standing is_element slots arguments) ]
+  | Some element ↦ Some element
+  | None ↦ supertype (standing is_element slots arguments)
+]
 
 -- the common type: the supertype of the arguments at such places, which is INT64 where there are none
 abbrev pub common_type : List Slot → List Arg → Option SqlType

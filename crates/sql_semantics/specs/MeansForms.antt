@@ -207,5 +207,6 @@ element_at f xs (Some n) = elim (slice_get xs n) [ None ↦ outside f | Some x �
 -- a NULL array or index gives NULL
 abbrev pub subscript : IndexForm → Value → Value → Outcome Value
 subscript f xs i = elim (is_null_value xs) [
-    true ↦ Ok value.Null
-  | false ↦ elim (is_null_value i) [ true ↦ Ok value.Null | false ↦ element_at f (elements xs) (before_element f (number i)) ] ]
+  | true ↦ Ok value.Null
+  | false ↦ elim (is_null_value i) [ true ↦ Ok value.Null | false ↦ element_at f (elements xs) (before_element f (number i)) ]
+]

@@ -237,8 +237,9 @@ module _ (catalog : Entries) (definitions : List Defined) (meant : List Meant) (
     abbrev pub prefixed : Option ℕ → List Prefix → Operand → Operand
     prefixed integer [] x = x
     prefixed integer (p ∷ []) x = elim (is_least integer && is_minus p.operator) [
-        true ↦ record { means = gives (value.Int (negsuc 9223372036854775807)); arg = other_arg ty.Int64 }
-      | false ↦ operator_operand (prefix_name p.operator) (x ∷ []) ]
+      | true ↦ record { means = gives (value.Int (negsuc 9223372036854775807)); arg = other_arg ty.Int64 }
+      | false ↦ operator_operand (prefix_name p.operator) (x ∷ [])
+    ]
     prefixed integer (p ∷ q ∷ prefixes) x = operator_operand (prefix_name p.operator) (prefixed integer (q ∷ prefixes) x ∷ [])
 
     -- ---- paths
@@ -289,7 +290,7 @@ module _ (catalog : Entries) (definitions : List Defined) (meant : List Meant) (
     abbrev pub call_means : Call E → Env → Meaning Value
     call_means call env =
         body_means (function_among catalog.definitions meant (function_name call.function)) (function_name call.function)
-            (call_operands (part_place (function_name call.function)) call.arguments env)
+        (call_operands (part_place (function_name call.function)) call.arguments env)
 
     abbrev pub safe_call_means : Call E → Env → Meaning Value
     safe_call_means call env =
@@ -318,13 +319,13 @@ module _ (catalog : Entries) (definitions : List Defined) (meant : List Meant) (
     abbrev pub case_means : Option E → List (When E) → Option E → Env → Meaning Value
     case_means None whens otherwise env =
         branches_means is_true (λ e. value_as ty.Bool e env) (common (results_of whens otherwise env)) whens
-            (last_means (common (results_of whens otherwise env)) (otherwise_operands otherwise env)) env
+        (last_means (common (results_of whens otherwise env)) (otherwise_operands otherwise env)) env
     -- the subject is evaluated once, and compared in the supertype of it and the WHEN values
     case_means (Some subject) whens otherwise env =
         let compared = common (operand subject env ∷ operands (map (λ w. w.test) whens) env) in
         value_as compared subject env >>= (λ x.
         branches_means (λ y. is_equal (equal x y)) (λ e. value_as compared e env) (common (results_of whens otherwise env)) whens
-            (last_means (common (results_of whens otherwise env)) (otherwise_operands otherwise env)) env)
+        (last_means (common (results_of whens otherwise env)) (otherwise_operands otherwise env)) env)
 
     -- ---- WITH expressions
 
@@ -446,7 +447,7 @@ module _ (catalog : Entries) (definitions : List Defined) (meant : List Meant) (
     pair_tests test env scope (left ∷ lefts) [] = gives []
     pair_tests test env scope (left ∷ lefts) (right ∷ rights) =
         Both (Gather (map (λ row. value_as ty.Bool test (within env (record { scope = scope; values = left ++ row }))) right)) (pair_tests test env scope lefts rights)
-            >>= (λ both. gives (both.0 ∷ both.1))
+        >>= (λ both. gives (both.0 ∷ both.1))
 
     abbrev pub all_pairs : List (List Row) → Pairs
     all_pairs rights = map (λ rows. map (λ row. true) rows) rights

@@ -36,5 +36,6 @@ for_struct allowed sight = record sight { as_struct = allowed }
 abbrev pub last_cte : {A : Type 0} → (A → List ℕ) → List ℕ → List A → Option A
 last_cte called name [] = None
 last_cte called name (cte ∷ ctes) = elim (last_cte called name ctes) [
-    Some found ↦ Some found
-  | None ↦ elim (same_name (called cte) name) [ true ↦ Some cte | false ↦ None ] ]
+  | Some found ↦ Some found
+  | None ↦ elim (same_name (called cte) name) [ true ↦ Some cte | false ↦ None ]
+]

@@ -54,7 +54,7 @@ lambda_functions = codes "ARRAY_FILTER" ∷ codes "ARRAY_TRANSFORM" ∷ []
 abbrev pub is_function_name : List ℕ → Bool
 is_function_name name =
     (list_any (λ row. same_name row.name name) signatures || list_any (same_name name) lambda_functions)
-      && all_letters (str_to_ascii_uppercase name) && not (list_any (same_name name) words)
+    && all_letters (str_to_ascii_uppercase name) && not (list_any (same_name name) words)
 
 -- the functions that choose or catch, which SAFE doesn't take
 abbrev pub special : List (List ℕ)
@@ -200,5 +200,6 @@ safe_call_type place name found modified arguments =
 abbrev pub extract_type : ℕ → Name → Arg → Checked Arg
 extract_type place part a =
     elim (chosen (codes "EXTRACT") (part_arg part.text ∷ a ∷ [])) [
-      None ↦ broken 9 place
-    | Some choice ↦ known_part extract_parts part.place part.text >>= (λ _. other choice.gives) ]
+      | None ↦ broken 9 place
+      | Some choice ↦ known_part extract_parts part.place part.text >>= (λ _. other choice.gives)
+    ]

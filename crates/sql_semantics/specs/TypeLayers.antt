@@ -157,15 +157,17 @@ faulty_edit listed columns left = repeated listed || list_any (λ name. not (is_
 abbrev pub columns_at : List Entry → List ℕ → Columns
 columns_at scope [] = []
 columns_at scope (slot ∷ slots) = elim (slice_get scope slot) [
-    None ↦ columns_at scope slots
-  | Some e ↦ record { name = e.name; ty = elim e.ty [ None ↦ ty.Int64 | Some type ↦ type ] } ∷ columns_at scope slots ]
+  | None ↦ columns_at scope slots
+  | Some e ↦ record { name = e.name; ty = elim e.ty [ None ↦ ty.Int64 | Some type ↦ type ] } ∷ columns_at scope slots
+]
 
 -- the columns of a range variable, under their names there
 abbrev pub member_columns : List Entry → List Member → Columns
 member_columns scope [] = []
 member_columns scope (m ∷ members) = elim (slice_get scope m.slot) [
-    None ↦ member_columns scope members
-  | Some e ↦ record { name = m.name; ty = elim e.ty [ None ↦ ty.Int64 | Some type ↦ type ] } ∷ member_columns scope members ]
+  | None ↦ member_columns scope members
+  | Some e ↦ record { name = m.name; ty = elim e.ty [ None ↦ ty.Int64 | Some type ↦ type ] } ∷ member_columns scope members
+]
 
 -- the members of a range variable, with the scope in which it stands
 abbrev pub range_members : List Entry → Option Entry → Option (List Entry × List Member)
@@ -275,8 +277,9 @@ module _ (catalog : Entries) (definitions : List Defined) where
     -- a date part is written as a single name, and isn't looked up
     abbrev pub expression_layer : Bool → E → Sight → Checked Written
     expression_layer here e sight = elim (if here then single_name (parts.tree e) else None) [
-        Some name ↦ Ok (expression (place_of (parts.tree e)) (part_arg name) (Some name))
-      | None ↦ parts.expr e sight >>= (λ a. Ok (expression (place_of (parts.tree e)) a None)) ]
+      | Some name ↦ Ok (expression (place_of (parts.tree e)) (part_arg name) (Some name))
+      | None ↦ parts.expr e sight >>= (λ a. Ok (expression (place_of (parts.tree e)) a None))
+    ]
 
     abbrev pub argument_layer : Bool → Argument E → Sight → Checked Written
     argument_layer here (arg.Expr e) sight = expression_layer here e sight
@@ -294,14 +297,14 @@ module _ (catalog : Entries) (definitions : List Defined) where
         arguments_layer (part_place (function_name call.function)) call.arguments sight >>= (λ arguments.
         sorts_layer call.order sight >>= (λ sorts.
         call_type call.place (function_name call.function) (function_of catalog definitions (function_name call.function))
-            (has_modifier call.distinct call.star call.nulls call.order call.limit) arguments))
+        (has_modifier call.distinct call.star call.nulls call.order call.limit) arguments))
 
     abbrev pub safe_call_layer : Call E → Sight → Checked Arg
     safe_call_layer call sight =
         arguments_layer (part_place (function_name call.function)) call.arguments sight >>= (λ arguments.
         sorts_layer call.order sight >>= (λ sorts.
         safe_call_type call.place (function_name call.function) (function_of catalog definitions (function_name call.function))
-            (has_modifier call.distinct call.star call.nulls call.order call.limit) arguments))
+        (has_modifier call.distinct call.star call.nulls call.order call.limit) arguments))
 
     -- ---- CASE
 
@@ -436,8 +439,9 @@ module _ (catalog : Entries) (definitions : List Defined) where
     abbrev pub table_columns : Name → Option CteColumns → Checked Columns
     table_columns name (Some cte) = Ok cte.columns
     table_columns name None = elim (table_of catalog name.text) [
-        Some columns ↦ Ok columns
-      | None ↦ elim (view_of catalog definitions name.text) [ Some columns ↦ columns | None ↦ broken 5 name.place ] ]
+      | Some columns ↦ Ok columns
+      | None ↦ elim (view_of catalog definitions name.text) [ Some columns ↦ columns | None ↦ broken 5 name.place ]
+    ]
 
     abbrev pub primary_layer : Primary-F E P T F J Q S → Sight → List Entry → Checked FromScope
     -- the range variable is the alias, else the name
@@ -545,5 +549,6 @@ module _ (catalog : Entries) (definitions : List Defined) where
     -- WITH, and then the body
     abbrev pub query_layer : Query-F E P T F J Q S → Sight → Checked Columns
     query_layer q sight = elim (is_plain_query q) [
-        true ↦ ctes_layer [] q.ctes sight >>= (λ inner. parts.term q.body.first inner)
-      | false ↦ unbuilt ]
+      | true ↦ ctes_layer [] q.ctes sight >>= (λ inner. parts.term q.body.first inner)
+      | false ↦ unbuilt
+    ]

@@ -112,8 +112,9 @@ view_columns catalog before written.Nested = broken 1 0
 
 abbrev pub body_type : Entries → List Defined → List Argument → Written Expr → List SqlType → Checked SqlType
 body_type catalog before arguments (written.Tree body) types = elim (unbuilt_expr body) [
-    true ↦ broken 2 0
-  | false ↦ TypeExpr catalog before body (inside nothing_in_sight (argument_scope arguments types)) >>= (λ a. Ok (type_of a)) ]
+  | true ↦ broken 2 0
+  | false ↦ TypeExpr catalog before body (inside nothing_in_sight (argument_scope arguments types)) >>= (λ a. Ok (type_of a))
+]
 body_type catalog before arguments (written.NoTree place) types = broken 1 place
 body_type catalog before arguments written.Nested types = broken 1 0
 
