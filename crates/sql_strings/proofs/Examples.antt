@@ -5,7 +5,7 @@ use Rattle.std.specs.Str.{chars}
 use Rattle.sql_types.specs.declared.value.Value.{out-Value}
 use Rattle.sql_types.specs.declared.value.Value.TheVariants as value
 use Rattle.sql_types.specs.declared.fault.FaultKind.TheVariants as fault
-use Rattle.sql_strings.specs.Texts.{part_at, from_place, first_place, place_of, split_text, replaced}
+use Rattle.sql_strings.specs.Texts.{part_at, from_place, first_place, place_of, split_text, replaced, drop_front, drop_back, stands_in}
 use Rattle.sql_strings.specs.Patterns.{like}
 use Rattle.sql_strings.specs.Hex.{from_hex}
 use Rattle.sql_strings.specs.Rows.{string_kind, apply_substr, apply_length, apply_repeat}
@@ -64,6 +64,10 @@ escaped = refl
 -- SPLIT('', '') is one empty piece
 one_empty_piece : split_text [] [] ≡ [] ∷ []
 one_empty_piece = refl
+
+-- TRIM('xax', 'x')
+both_ends : drop_back (stands_in (codes "x")) (drop_front (stands_in (codes "x")) (codes "xax")) ≡ codes "a"
+both_ends = refl
 
 -- REPEAT('', -1)
 negative_times : apply_repeat value.Text (value.Text [] ∷ value.Int (negsuc 0) ∷ []) ≡ Err fault.Argument
