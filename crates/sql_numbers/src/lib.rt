@@ -15,6 +15,8 @@ pub mod logic;
 mod results;
 pub mod safe;
 pub mod signs;
+#[cfg(test)]
+mod tests;
 
 pub use arithmetic::{
     add_int64_int64, add_uint64_uint64, mul_int64_int64, mul_uint64_uint64, sub_int64_int64,
