@@ -1,17 +1,18 @@
 -- What the stages answer, and how it is told.
-use Rattle.std.proofs.Common.{◌≡◌, ℕ, List, [], Option, None, Some, Result, Ok, Err, IfOk, ap, ◌∙◌, subst, sym, refl}
+use Rattle.std.proofs.Common.{◌≡◌, ℕ, List, [], Option, None, Some, Result, Ok, Err, IfOk, ap, ◌∙◌, subst, sym, refl, inl, inr}
 use Rattle.sql_types.specs.declared.sql_type.Named.{Named}
 use Rattle.sql_types.specs.declared.sql_type.SqlType.{SqlType}
 use Rattle.sql_types.specs.declared.rows.Rows.{Rows}
 use Rattle.sql_ast.specs.declared.query.Query.{Query}
 use Rattle.sql_catalog.specs.declared.entries.TableDef.{TableDef}
 use Rattle.sql_rules.specs.Typing.{TypeQuery, nothing_in_sight}
-use Rattle.small_query.specs.Forms.{SmallText, Refused}
+use Rattle.sql_ast.specs.declared.token.Token.{Token}
+use Rattle.small_query.specs.Forms.{SmallOf, Refused}
 use Rattle.sql_ast.specs.declared.refusal.Refusal.{Refusal}
 use Rattle.sql_ast.specs.declared.refusal.Refusal.TheVariants as refused
 use Rattle.small_run.specs.Plans.{one}
 use Rattle.gsql.specs.declared.stop.Stop.{Stop}
-use Rattle.gsql.specs.declared.stop.Stop.TheVariants.{OtherForm, ReadFault, OutOfMemory}
+use Rattle.gsql.specs.declared.stop.Stop.TheVariants.{Unread, OtherForm, Limit, ReadFault, OutOfMemory}
 use Rattle.gsql.specs.declared.status.Status.{Status}
 use Rattle.gsql.specs.declared.status.Status.TheVariants as status
 use Rattle.gsql.specs.Counted.{Counted}
@@ -29,6 +30,7 @@ ran words inside output error printed answer out err same report first second = 
     whole (status.Done tree) r = (out, err, r, first, second)
     whole (status.Refused rule place) r = (out, err, r, first, second)
     whole (status.Usage kind) r = (out, err, r, first, second)
+    whole (status.Limit name) r = (out, err, r, first, second)
     whole (status.ReadFault file) r = (out, err, r, first, second)
     whole status.WriteFault r = absurd r
     whole status.OutOfMemory r = (out, err, r, first, second)
@@ -37,10 +39,10 @@ ran words inside output error printed answer out err same report first second = 
 abbrev pub refuses : (A : Type 0) {E : Type 0} → E → Result A E
 refuses A e = Err e
 
--- the one query of these bytes has no type
-pub no_query : (table : TableDef) (bytes : List ℕ) (query : Query) → ((p q : Query) → SmallText bytes p → SmallText bytes q → p ≡ q) → SmallText bytes query →
-    (broken : ℕ × ℕ) → TypeQuery (one table) query nothing_in_sight ≡ Err broken → NoQuery table bytes
-no_query table bytes query once small broken untyped other columns also typed =
+-- the one query of these tokens has no type
+pub no_query : (table : TableDef) (tokens : List Token) (query : Query) → ((p q : Query) → SmallOf tokens p → SmallOf tokens q → p ≡ q) → SmallOf tokens query →
+    (broken : ℕ × ℕ) → TypeQuery (one table) query nothing_in_sight ≡ Err broken → NoQuery table tokens
+no_query table tokens query once small broken untyped other columns also typed =
     let same : other ≡ query = once other query also small in
     let same_type : TypeQuery (one table) other nothing_in_sight ≡ TypeQuery (one table) query nothing_in_sight = ap (λ q. TypeQuery (one table) q nothing_in_sight) same in
     apart (sym typed ∙ same_type ∙ untyped)
@@ -57,19 +59,25 @@ reported words inside catalog query answer asks stage counted ending out err tel
   where
     status_of : Result Rows Stop → Status
     status_of (Ok rows) = status.Done []
+    status_of (Err (Unread place)) = status.Refused 1 place
     status_of (Err OtherForm) = status.Refused 2 0
+    status_of (Err (Limit name)) = status.Limit name
     status_of (Err (ReadFault file)) = status.ReadFault file
     status_of (Err OutOfMemory) = status.OutOfMemory
 
     ending_of : (r : Result Rows Stop) → Tells r ending out err → ending ≡ status_of r
     ending_of (Ok rows) t = t.0
+    ending_of (Err (Unread place)) t = t.0
     ending_of (Err OtherForm) t = t.0
+    ending_of (Err (Limit name)) t = t.0
     ending_of (Err (ReadFault file)) t = t.0
     ending_of (Err OutOfMemory) t = t.0
 
     told : (r : Result Rows Stop) → Staged (asked words) inside r → Counted inside.before inside.after inside.broken r → Tells r ending out err → Report words inside (status_of r) out err
     told (Ok rows) s n t = (rows, s, refl, t.1, t.2, n)
-    told (Err OtherForm) s n t = (s, refl, refl, t.1, t.2, n)
+    told (Err (Unread place)) s n t = (inl (refl, s), t.1, t.2, n)
+    told (Err OtherForm) s n t = (inr (refl, refl, s), t.1, t.2, n)
+    told (Err (Limit name)) s n t = (s, t.1, t.2, n)
     told (Err (ReadFault file)) s n t = (s, n.0, n.1, t.1, t.2)
     told (Err OutOfMemory) s n t = (t.1, t.2)
 
@@ -78,5 +86,5 @@ if_ok (Ok a) more held = more a held
 if_ok (Err e) more held = held
 
 -- a refusal by a rule says that there is no small query
-pub none_refused : (bytes : List ℕ) (refusal : Refusal) (rule place : ℕ) → refusal ≡ refused.Rule rule place → Refused (SmallText bytes) refusal → (query : Query) → SmallText bytes query → ⊥
-none_refused bytes refusal rule place is said query small = (subst (λ r. Refused (SmallText bytes) r) is said).2 query small
+pub none_refused : (tokens : List Token) (refusal : Refusal) (rule place : ℕ) → refusal ≡ refused.Rule rule place → Refused (SmallOf tokens) refusal → (query : Query) → SmallOf tokens query → ⊥
+none_refused tokens refusal rule place is said query small = (subst (λ r. Refused (SmallOf tokens) r) is said).2 query small

@@ -1,4 +1,5 @@
 pub mod Words
+pub mod Limits
 pub mod Counted
 pub mod Stages
 pub mod Parts

@@ -7,10 +7,12 @@ use Rattle.sql_types.specs.declared.rows.Rows.{Rows}
 use Rattle.sql_ast.specs.Rows.{RowsText}
 use Rattle.gsql.specs.declared.stop.Stop.{Stop}
 use Rattle.gsql.specs.declared.stop.Stop.TheVariants as stop
+use Rattle.gsql.specs.declared.status.LimitName.{LimitName}
 use Rattle.gsql.specs.declared.status.Status.{Status}
 use Rattle.gsql.specs.declared.status.Status.TheVariants as status
 use Rattle.gsql.specs.declared.status.UsageKind.TheVariants as usage
 use Rattle.gsql.specs.Words.{asked}
+use Rattle.gsql.specs.Limits.{name_of}
 use Rattle.gsql.specs.Stages.{CatalogStage}
 
 -- what the inputs hold, and what became of them in this call
@@ -33,11 +35,14 @@ pub record Outside : Type 0 where
 
 -- ---- the lines
 
-abbrev pub refused_line : List ℕ
-refused_line = codes "REFUSED 2 0" ++ 10 ∷ []
+abbrev pub refused_line : ℕ → ℕ → List ℕ
+refused_line rule place = codes "REFUSED " ++ decimal rule ++ codes " " ++ decimal place ++ 10 ∷ []
 
 abbrev pub usage_line : List ℕ
 usage_line = codes "USAGE Words" ++ 10 ∷ []
+
+abbrev pub limit_line : LimitName → List ℕ
+limit_line name = codes "LIMIT " ++ name_of name ++ 10 ∷ []
 
 abbrev pub read_fault_line : ℕ → List ℕ
 read_fault_line file = codes "READFAULT " ++ decimal file ++ 10 ∷ []
@@ -55,9 +60,13 @@ abbrev pub Report : List (List ℕ) → Inside → Status → List ℕ → List 
 -- the rows of the answer
 Report words inside (status.Done tree) out err =
     (answer : Rows) × Staged (asked words) inside (Ok answer) × (tree ≡ []) × (out ≡ RowsText answer.columns answer.rows) × (err ≡ []) × (inside.after ≡ inside.before)
--- another form of catalog, query or table file
+-- a query without tokens is rule 1 at its place; another form of catalog, query or table file is rule 2
 Report words inside (status.Refused rule place) out err =
-    Staged (asked words) inside (Err stop.OtherForm) × (rule ≡ 2) × (place ≡ 0) × (out ≡ []) × (err ≡ refused_line) × (inside.after ≡ inside.before)
+    (((rule ≡ 1) × Staged (asked words) inside (Err (stop.Unread place))) ⊎ ((rule ≡ 2) × (place ≡ 0) × Staged (asked words) inside (Err stop.OtherForm)))
+    × (out ≡ []) × (err ≡ refused_line rule place) × (inside.after ≡ inside.before)
+-- a file or a text above a limit
+Report words inside (status.Limit name) out err =
+    Staged (asked words) inside (Err (stop.Limit name)) × (out ≡ []) × (err ≡ limit_line name) × (inside.after ≡ inside.before)
 -- other words
 Report words inside (status.Usage usage.Words) out err = (asked words ≡ None) × (out ≡ []) × (err ≡ usage_line) × (inside.after ≡ inside.before)
 -- a file that can't be read: the count of faults rose, and this file is the one that broke

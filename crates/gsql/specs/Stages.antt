@@ -1,4 +1,4 @@
--- What each stage of a run answers: the catalog, then the query, then the table and its evaluation.
+-- What each stage of a run answers: the catalog, then the query with its tokens, then the table and its evaluation.
 use Rattle.std.specs.Prelude.{◌≡◌, ◌≢◌, ◌⊎◌, ℕ, ◌<◌, ◌≤◌, List, [], ◌∷◌, length, Option, Some, None, Result, Ok, Err}
 use Rattle.sql_types.specs.declared.sql_type.Named.{Named}
 use Rattle.sql_types.specs.declared.sql_type.SqlType.{SqlType}
@@ -9,26 +9,36 @@ use Rattle.sql_catalog.specs.declared.entries.TableDef.{TableDef}
 use Rattle.sql_rules.specs.Typing.{TypeQuery, nothing_in_sight}
 use Rattle.sql_rules.specs.Meaning.{Permits}
 use Rattle.small_catalog.specs.Catalogs.{catalog_of}
-use Rattle.small_query.specs.Forms.{SmallText}
+use Rattle.small_query.specs.Forms.{SmallOf}
+use Rattle.sql_ast.specs.declared.token.Token.{Token}
+use Rattle.sql_ast.specs.Nest.{nest}
+use Rattle.sql_ast.specs.Tokens.{TokensOf}
 use Rattle.csv_tables.specs.Tables.{TableOf}
 use Rattle.small_run.specs.Plans.{one}
 use Rattle.gsql.specs.declared.stop.Stop.{Stop}
-use Rattle.gsql.specs.declared.stop.Stop.TheVariants.{OtherForm, ReadFault, OutOfMemory}
+use Rattle.gsql.specs.declared.stop.Stop.TheVariants.{Unread, OtherForm, Limit, ReadFault, OutOfMemory}
+use Rattle.gsql.specs.declared.status.LimitName.{LimitName}
+use Rattle.gsql.specs.declared.status.LimitName.TheVariants as limit
+use Rattle.gsql.specs.Limits.{catalog_bytes, query_bytes, table_bytes, nested}
 
 -- What is said of a file's bytes. Where they aren't told, it is said of some bytes.
 abbrev pub OnTold : Option (List ℕ) → (List ℕ → Type 0) → Type 0
 OnTold None P = (bytes : List ℕ) × P bytes
 OnTold (Some bytes) P = P bytes
 
--- A file is read within its limit, and what its bytes say decides the answer. A file above its limit is of another form.
--- Where a call of the inputs fails, the answer names the file of this number, which is the one that was begun last.
-abbrev pub Stage : ℕ → ℕ → List ℕ → (List ℕ → Option (List ℕ)) → Option (List ℕ) → (List ℕ → Result Rows Stop → Type 0) → Result Rows Stop → Type 0
-Stage limit file name content begun Said (Ok answer) = OnTold (content name) (λ bytes. (length bytes ≤ limit) × Said bytes (Ok answer))
-Stage limit file name content begun Said (Err OtherForm) =
-    OnTold (content name) (λ bytes. (limit < length bytes) ⊎ ((length bytes ≤ limit) × Said bytes (Err OtherForm)))
-Stage limit file name content begun Said (Err (ReadFault faulty)) =
+-- A file is read within its limit, and what its bytes say decides the answer. A file above its limit is answered by the
+-- limit's name. Where a call of the inputs fails, the answer names the file of this number, which is the one that was begun
+-- last.
+abbrev pub Stage : ℕ → LimitName → ℕ → List ℕ → (List ℕ → Option (List ℕ)) → Option (List ℕ) → (List ℕ → Result Rows Stop → Type 0) → Result Rows Stop → Type 0
+Stage limit limited file name content begun Said (Ok answer) = OnTold (content name) (λ bytes. (length bytes ≤ limit) × Said bytes (Ok answer))
+Stage limit limited file name content begun Said (Err (Unread place)) = OnTold (content name) (λ bytes. (length bytes ≤ limit) × Said bytes (Err (Unread place)))
+Stage limit limited file name content begun Said (Err OtherForm) = OnTold (content name) (λ bytes. (length bytes ≤ limit) × Said bytes (Err OtherForm))
+Stage limit limited file name content begun Said (Err (Limit exceeded)) =
+    ((exceeded ≡ limited) × OnTold (content name) (λ bytes. limit < length bytes))
+    ⊎ OnTold (content name) (λ bytes. (length bytes ≤ limit) × Said bytes (Err (Limit exceeded)))
+Stage limit limited file name content begun Said (Err (ReadFault faulty)) =
     ((faulty ≡ file) × (begun ≡ Some name)) ⊎ OnTold (content name) (λ bytes. (length bytes ≤ limit) × Said bytes (Err (ReadFault faulty)))
-Stage limit file name content begun Said (Err OutOfMemory) = Unit {0}
+Stage limit limited file name content begun Said (Err OutOfMemory) = Unit {0}
 
 -- ---- the table
 
@@ -41,44 +51,65 @@ Answers table query rows answer =
 abbrev pub TableSaid : TableDef → Query → List ℕ → Result Rows Stop → Type 0
 TableSaid table query bytes (Ok answer) = (rows : List (List Value)) × (TableOf table.columns bytes ≡ Ok rows) × Answers table query rows answer
 TableSaid table query bytes (Err OtherForm) = (at : ℕ × ℕ) × (TableOf table.columns bytes ≡ Err at)
-TableSaid table query bytes (Err (ReadFault file)) = ⊥
 TableSaid table query bytes (Err OutOfMemory) = Unit {0}
+TableSaid table query bytes (Err _) = ⊥
 
 -- the table file is number 2, and has at most 67,108,864 bytes
 abbrev pub TableStage : TableDef → Query → (List ℕ → Option (List ℕ)) → Option (List ℕ) → Result Rows Stop → Type 0
-TableStage table query content begun answer = Stage 67108864 2 table.file content begun (TableSaid table query) answer
+TableStage table query content begun answer = Stage table_bytes limit.TableBytes 2 table.file content begun (TableSaid table query) answer
 
 -- ---- the query
 
--- the bytes are a small query that has a type over the table
-abbrev pub IsQuery : TableDef → List ℕ → Query → Type 0
-IsQuery table bytes query = SmallText bytes query × ((columns : List (Named SqlType)) × (TypeQuery (one table) query nothing_in_sight ≡ Ok columns))
+-- the tokens are a small query that has a type over the table
+abbrev pub IsQuery : TableDef → List Token → Query → Type 0
+IsQuery table tokens query = SmallOf tokens query × ((columns : List (Named SqlType)) × (TypeQuery (one table) query nothing_in_sight ≡ Ok columns))
 
--- the bytes are none
-abbrev pub NoQuery : TableDef → List ℕ → Type 0
-NoQuery table bytes = (query : Query) (columns : List (Named SqlType)) → SmallText bytes query → TypeQuery (one table) query nothing_in_sight ≢ Ok columns
+-- the tokens are none
+abbrev pub NoQuery : TableDef → List Token → Type 0
+NoQuery table tokens = (query : Query) (columns : List (Named SqlType)) → SmallOf tokens query → TypeQuery (one table) query nothing_in_sight ≢ Ok columns
 
--- what the bytes of a query say: a query, and then the table's stage answers; or no query of the form that is taken
+-- what the tokens of a query say: a query, and then the table's stage answers; or no query of the form that is taken
+abbrev pub TokensSaid : TableDef → (List ℕ → Option (List ℕ)) → Option (List ℕ) → List Token → Result Rows Stop → Type 0
+TokensSaid table content begun tokens (Ok answer) = (query : Query) × IsQuery table tokens query × TableStage table query content begun (Ok answer)
+TokensSaid table content begun tokens (Err OtherForm) =
+    NoQuery table tokens ⊎ ((query : Query) × IsQuery table tokens query × TableStage table query content begun (Err OtherForm))
+TokensSaid table content begun tokens (Err (Limit exceeded)) = (query : Query) × IsQuery table tokens query × TableStage table query content begun (Err (Limit exceeded))
+TokensSaid table content begun tokens (Err (ReadFault file)) = (query : Query) × IsQuery table tokens query × TableStage table query content begun (Err (ReadFault file))
+TokensSaid table content begun tokens (Err (Unread place)) = ⊥
+TokensSaid table content begun tokens (Err OutOfMemory) = Unit {0}
+
+-- the text has tokens, whose brackets nest within the limit, and this is said of them
+abbrev pub OnTokens : List ℕ → (List Token → Type 0) → Type 0
+OnTokens bytes P = (tokens : List Token) × TokensOf bytes (Ok tokens) × (nest tokens ≤ nested) × P tokens
+
+-- the text has tokens, whose brackets nest above the limit
+abbrev pub NestsAbove : List ℕ → Type 0
+NestsAbove bytes = (tokens : List Token) × TokensOf bytes (Ok tokens) × (nested < nest tokens)
+
+-- what the bytes of a query say: no tokens, brackets above the limit, or what the tokens say
 abbrev pub QuerySaid : TableDef → (List ℕ → Option (List ℕ)) → Option (List ℕ) → List ℕ → Result Rows Stop → Type 0
-QuerySaid table content begun bytes (Ok answer) = (query : Query) × IsQuery table bytes query × TableStage table query content begun (Ok answer)
-QuerySaid table content begun bytes (Err OtherForm) = NoQuery table bytes ⊎ ((query : Query) × IsQuery table bytes query × TableStage table query content begun (Err OtherForm))
-QuerySaid table content begun bytes (Err (ReadFault file)) = (query : Query) × IsQuery table bytes query × TableStage table query content begun (Err (ReadFault file))
+QuerySaid table content begun bytes (Ok answer) = OnTokens bytes (λ tokens. TokensSaid table content begun tokens (Ok answer))
+QuerySaid table content begun bytes (Err (Unread place)) = TokensOf bytes (Err place)
+QuerySaid table content begun bytes (Err OtherForm) = OnTokens bytes (λ tokens. TokensSaid table content begun tokens (Err OtherForm))
+QuerySaid table content begun bytes (Err (Limit exceeded)) =
+    ((exceeded ≡ limit.Nest) × NestsAbove bytes) ⊎ OnTokens bytes (λ tokens. TokensSaid table content begun tokens (Err (Limit exceeded)))
+QuerySaid table content begun bytes (Err (ReadFault file)) = OnTokens bytes (λ tokens. TokensSaid table content begun tokens (Err (ReadFault file)))
 QuerySaid table content begun bytes (Err OutOfMemory) = Unit {0}
 
 -- the query file is number 1, and has at most 1,048,576 bytes
 abbrev pub QueryStage : TableDef → List ℕ → (List ℕ → Option (List ℕ)) → Option (List ℕ) → Result Rows Stop → Type 0
-QueryStage table name content begun answer = Stage 1048576 1 name content begun (QuerySaid table content begun) answer
+QueryStage table name content begun answer = Stage query_bytes limit.QueryBytes 1 name content begun (QuerySaid table content begun) answer
 
 -- ---- the catalog
 
 -- what the bytes of a catalog say: a table, and then the query's stage answers; or no catalog of the form that is taken
 abbrev pub CatalogSaid : List ℕ → (List ℕ → Option (List ℕ)) → Option (List ℕ) → List ℕ → Result Rows Stop → Type 0
-CatalogSaid query content begun bytes (Ok answer) = (table : TableDef) × (catalog_of bytes ≡ Some table) × QueryStage table query content begun (Ok answer)
 CatalogSaid query content begun bytes (Err OtherForm) =
     (catalog_of bytes ≡ None) ⊎ ((table : TableDef) × (catalog_of bytes ≡ Some table) × QueryStage table query content begun (Err OtherForm))
-CatalogSaid query content begun bytes (Err (ReadFault file)) = (table : TableDef) × (catalog_of bytes ≡ Some table) × QueryStage table query content begun (Err (ReadFault file))
 CatalogSaid query content begun bytes (Err OutOfMemory) = Unit {0}
+CatalogSaid query content begun bytes (Ok answer) = (table : TableDef) × (catalog_of bytes ≡ Some table) × QueryStage table query content begun (Ok answer)
+CatalogSaid query content begun bytes (Err stop) = (table : TableDef) × (catalog_of bytes ≡ Some table) × QueryStage table query content begun (Err stop)
 
 -- the catalog is file number 0, and has at most 16,777,216 bytes
 abbrev pub CatalogStage : List ℕ → List ℕ → (List ℕ → Option (List ℕ)) → Option (List ℕ) → Result Rows Stop → Type 0
-CatalogStage catalog query content begun answer = Stage 16777216 0 catalog content begun (CatalogSaid query content begun) answer
+CatalogStage catalog query content begun answer = Stage catalog_bytes limit.CatalogBytes 0 catalog content begun (CatalogSaid query content begun) answer

@@ -5,7 +5,7 @@ ghost use Rattle.gsql.specs.Told.{Tells};
 
 use crate::arguments::asked;
 use crate::stages::catalog_stage;
-use crate::status::{Status, UsageKind};
+use crate::status::{LimitName, Status, UsageKind};
 use crate::stop::Stop;
 use gsql_io::{Bytes, Inputs};
 use itoa::Buffer;
@@ -25,6 +25,27 @@ fn line(alloc: Global, text: &[u8]) -> Result<Bytes, AllocError>
     ensures { IfOk result (λ bytes. bytes ≡ text.now ++ 10 ∷ []) }
 {
     let mut line = Vec::from_slice(alloc, text)?;
+    line.push(b'\n')?;
+    Ok(Items::from_vec(line))
+}
+
+fn refused_line(alloc: Global, rule: u8, place: u64) -> Result<Bytes, AllocError>
+    ensures { IfOk result (λ bytes. bytes ≡ report.refused_line rule place) }
+{
+    let mut line = Vec::from_slice(alloc, b"REFUSED ")?;
+    let mut buffer = Buffer::new();
+    line.extend_from_slice(buffer.format(rule).as_bytes())?;
+    line.push(b' ')?;
+    line.extend_from_slice(buffer.format(place).as_bytes())?;
+    line.push(b'\n')?;
+    Ok(Items::from_vec(line))
+}
+
+fn limit_line(alloc: Global, name: LimitName) -> Result<Bytes, AllocError>
+    ensures { IfOk result (λ bytes. bytes ≡ report.limit_line name) }
+{
+    let mut line = Vec::from_slice(alloc, b"LIMIT ")?;
+    line.extend_from_slice(name.name())?;
     line.push(b'\n')?;
     Ok(Items::from_vec(line))
 }
@@ -49,6 +70,16 @@ fn out_of_memory(alloc: Global) -> Printed
     }
 }
 
+fn refused(alloc: Global, rule: u8, place: u64) -> Result<Printed, AllocError>
+    ensures { IfOk result (λ p. (p.status ≡ Status.Refused rule place) × (p.out ≡ []) × (p.err ≡ report.refused_line rule place)) }
+{
+    Ok(Printed {
+        out: Items::new(alloc),
+        err: refused_line(alloc, rule, place)?,
+        status: Status::Refused { rule, place },
+    })
+}
+
 // The report of an answer.
 fn told(alloc: Global, answer: Result<Rows, Stop>) -> Result<Printed, AllocError>
     ensures { IfOk result (λ p. Tells answer p.status p.out p.err) }
@@ -61,10 +92,12 @@ fn told(alloc: Global, answer: Result<Rows, Stop>) -> Result<Printed, AllocError
                 tree: Items::new(alloc),
             },
         }),
-        Err(Stop::OtherForm) => Ok(Printed {
+        Err(Stop::Unread(place)) => refused(alloc, 1, place),
+        Err(Stop::OtherForm) => refused(alloc, 2, 0),
+        Err(Stop::Limit(name)) => Ok(Printed {
             out: Items::new(alloc),
-            err: line(alloc, b"REFUSED 2 0")?,
-            status: Status::Refused { rule: 2, place: 0 },
+            err: limit_line(alloc, name)?,
+            status: Status::Limit { name },
         }),
         Err(Stop::ReadFault(file)) => Ok(Printed {
             out: Items::new(alloc),

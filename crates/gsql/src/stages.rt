@@ -1,18 +1,20 @@
 //! The stages of a run: the catalog, the query, and the table with its evaluation.
-ghost use Rattle.std.specs.Prelude.{◌≡◌, ◌≤◌, ℕ, List, Some, Option};
+ghost use Rattle.std.specs.Prelude.{◌≡◌};
 ghost use Rattle.small_run.specs.Plans.{Plans};
 ghost use Rattle.gsql.specs.Stages as stage;
 ghost use Rattle.gsql.specs.Counted.{Counted};
 ghost use Rattle.gsql.specs.Parts.{IsPart};
 
+use crate::status::LimitName;
 use crate::stop::Stop;
 use csv_tables::{TableRefusal, read_table};
 use gsql_io::{Bytes, Inputs, ReadRefusal, read_file};
 use small_catalog::{CatalogRefusal, read_catalog};
 use small_query::read_query;
 use small_run::{NoPlan, Plan, plan, run};
-use sql_ast::{Query, Refusal};
+use sql_ast::{Query, Refusal, Token};
 use sql_catalog::TableDef;
+use sql_lexer::{LexFault, lex, nest};
 use sql_types::Rows;
 use std::alloc::Global;
 
@@ -22,6 +24,8 @@ pub const CATALOG_BYTES: u64 = 16_777_216;
 pub const QUERY_BYTES: u64 = 1_048_576;
 /// The greatest size of a table file, in bytes.
 pub const TABLE_BYTES: u64 = 67_108_864;
+/// The greatest number of brackets that are open at one token of a query.
+pub const NEST: u64 = 200;
 
 // Reads a whole file within its limit.
 fn read_part<I: Inputs>(
@@ -29,9 +33,10 @@ fn read_part<I: Inputs>(
     inputs: &mut I,
     name: &str,
     limit: u64,
+    limited: LimitName,
     file: u64,
 ) -> Result<Bytes, Stop>
-    ensures part { IsPart (I.content inputs.old name.now) limit file name.now (I.begun inputs.new) result }
+    ensures part { IsPart (I.content inputs.old name.now) limit limited file name.now (I.begun inputs.new) result }
     ensures counted { Counted (I.faults inputs.old) (I.faults inputs.new) (I.broken inputs.new) result }
     ensures content { I.content inputs.new ≡ I.content inputs.old }
 {
@@ -39,7 +44,7 @@ fn read_part<I: Inputs>(
     match read_file(alloc, inputs, name, limit) {
         Ok(bytes) => Ok(bytes),
         Err(ReadRefusal::Failed) => Err(Stop::ReadFault(file)),
-        Err(ReadRefusal::TooLong) => Err(Stop::OtherForm),
+        Err(ReadRefusal::TooLong) => Err(Stop::Limit(limited)),
         Err(ReadRefusal::OutOfMemory) => Err(Stop::OutOfMemory),
     }
 }
@@ -74,13 +79,42 @@ fn table_stage<I: Inputs>(
     ensures stage { stage.TableStage table.now query.now (I.content inputs.old) (I.begun inputs.new) result }
     ensures counted { Counted (I.faults inputs.old) (I.faults inputs.new) (I.broken inputs.new) result }
 {
-    match read_part(alloc, inputs, table.file.as_str(), TABLE_BYTES, 2) {
+    match read_part(
+        alloc,
+        inputs,
+        table.file.as_str(),
+        TABLE_BYTES,
+        LimitName::TableBytes,
+        2,
+    ) {
         Ok(bytes) => table_said(alloc, table, query, plan, bytes.as_slice()),
         Err(stop) => Err(stop),
     }
 }
 
-// Reads a query of the form that is taken and goes on to its table.
+// Reads tokens of the form that is taken as a query, and goes on to its table.
+fn tokens_said<I: Inputs>(
+    alloc: Global,
+    inputs: &mut I,
+    table: &TableDef,
+    tokens: &[Token],
+) -> Result<Rows, Stop>
+    ensures said { stage.TokensSaid table.now (I.content inputs.old) (I.begun inputs.new) tokens.now result }
+    ensures counted { Counted (I.faults inputs.old) (I.faults inputs.new) (I.broken inputs.new) result }
+{
+    small_query::laws::once();
+    match read_query(alloc, tokens) {
+        Ok(query) => match plan(alloc, table, &query) {
+            Ok(plan) => table_stage(alloc, inputs, table, &query, &plan),
+            Err(NoPlan::OtherForm) => Err(Stop::OtherForm),
+            Err(NoPlan::OutOfMemory) => Err(Stop::OutOfMemory),
+        },
+        Err(Refusal::Rule { .. }) => Err(Stop::OtherForm),
+        Err(Refusal::OutOfMemory) => Err(Stop::OutOfMemory),
+    }
+}
+
+// Splits a query into tokens, whose brackets may nest only so deep.
 fn query_said<I: Inputs>(
     alloc: Global,
     inputs: &mut I,
@@ -90,15 +124,13 @@ fn query_said<I: Inputs>(
     ensures said { stage.QuerySaid table.now (I.content inputs.old) (I.begun inputs.new) bytes.now result }
     ensures counted { Counted (I.faults inputs.old) (I.faults inputs.new) (I.broken inputs.new) result }
 {
-    small_query::laws::once();
-    match read_query(alloc, bytes) {
-        Ok(query) => match plan(alloc, table, &query) {
-            Ok(plan) => table_stage(alloc, inputs, table, &query, &plan),
-            Err(NoPlan::OtherForm) => Err(Stop::OtherForm),
-            Err(NoPlan::OutOfMemory) => Err(Stop::OutOfMemory),
-        },
-        Err(Refusal::Rule { .. }) => Err(Stop::OtherForm),
-        Err(Refusal::OutOfMemory) => Err(Stop::OutOfMemory),
+    match lex(alloc, bytes) {
+        Ok(tokens) if nest(&tokens) <= NEST => {
+            tokens_said(alloc, inputs, table, tokens.as_slice())
+        }
+        Ok(_) => Err(Stop::Limit(LimitName::Nest)),
+        Err(LexFault::At { place }) => Err(Stop::Unread(place)),
+        Err(LexFault::OutOfMemory) => Err(Stop::OutOfMemory),
     }
 }
 
@@ -111,7 +143,7 @@ fn query_stage<I: Inputs>(
     ensures stage { stage.QueryStage table.now name.now (I.content inputs.old) (I.begun inputs.new) result }
     ensures counted { Counted (I.faults inputs.old) (I.faults inputs.new) (I.broken inputs.new) result }
 {
-    match read_part(alloc, inputs, name, QUERY_BYTES, 1) {
+    match read_part(alloc, inputs, name, QUERY_BYTES, LimitName::QueryBytes, 1) {
         Ok(bytes) => query_said(alloc, inputs, table, bytes.as_slice()),
         Err(stop) => Err(stop),
     }
@@ -145,7 +177,14 @@ pub fn catalog_stage<I: Inputs>(
     ensures stage { stage.CatalogStage catalog.now query.now (I.content inputs.old) (I.begun inputs.new) result }
     ensures counted { Counted (I.faults inputs.old) (I.faults inputs.new) (I.broken inputs.new) result }
 {
-    match read_part(alloc, inputs, catalog, CATALOG_BYTES, 0) {
+    match read_part(
+        alloc,
+        inputs,
+        catalog,
+        CATALOG_BYTES,
+        LimitName::CatalogBytes,
+        0,
+    ) {
         Ok(bytes) => catalog_said(alloc, inputs, query, bytes.as_slice()),
         Err(stop) => Err(stop),
     }

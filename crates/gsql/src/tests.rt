@@ -1,6 +1,6 @@
 //! Whole runs over memory: the worked examples of the first form, and the faults of the outside.
 use crate::run::run_gsql;
-use gsql_io::{Calls, Files, MemInputs, MemSink, NamedFile};
+use gsql_io::{Bytes, Calls, Files, MemInputs, MemSink, NamedFile};
 use sql_types::Items;
 use std::alloc::{AllocError, Global};
 use std::test::Fail;
@@ -91,7 +91,7 @@ fn rows(rt: HostRuntime) -> Result<(), Fail> {
             b"a INT64\nNULL\n1\nrows=2\n",
         ),
         (
-            b"SELECT a FROM t WHERE a = 9223372036854775807",
+            b"SELECT a -- all of it\n FROM `t` WHERE a = 0x7FFFFFFFFFFFFFFF",
             b"a,b\n0x7fffffffffffffff,u\n",
             b"a INT64\n9223372036854775807\nrows=1\n",
         ),
@@ -108,20 +108,48 @@ fn rows(rt: HostRuntime) -> Result<(), Fail> {
 #[test]
 fn refusals(rt: HostRuntime) -> Result<(), Fail> {
     let alloc = rt.alloc();
-    let table: [(&[u8], &[u8]); 7] = [
-        (b"SELECT a FROM t WHERE z = 2", TABLE),
-        (b"SELECT a FROM t", TABLE),
-        (b"SELECT t FROM t WHERE a = 2", TABLE),
-        (b"SELECT a FROM t WHERE a = 'x'", TABLE),
-        (b"SELECT a FROM q WHERE a = 2", TABLE),
-        (QUERY, b"a,b\n1,x\n5\n"),
-        (QUERY, b""),
+    let table: [(&[u8], &[u8], &[u8]); 9] = [
+        (b"SELECT a FROM t WHERE z = 2", TABLE, b"REFUSED 2 0\n"),
+        (b"SELECT a FROM t", TABLE, b"REFUSED 2 0\n"),
+        (b"SELECT t FROM t WHERE a = 2", TABLE, b"REFUSED 2 0\n"),
+        (b"SELECT a FROM t WHERE a = 'x'", TABLE, b"REFUSED 2 0\n"),
+        (b"SELECT a FROM q WHERE a = 2", TABLE, b"REFUSED 2 0\n"),
+        (QUERY, b"a,b\n1,x\n5\n", b"REFUSED 2 0\n"),
+        (QUERY, b"", b"REFUSED 2 0\n"),
+        (b"SELECT 'abc", TABLE, b"REFUSED 1 7\n"),
+        (b"SELECT 1 /*", TABLE, b"REFUSED 1 9\n"),
     ];
-    for (query, cells) in table {
+    for (query, cells, line) in table {
         let ended = run_query(alloc, query, cells)?;
         assert_eq!(rt; ended.out.bytes(), b"".as_slice());
-        assert_eq!(rt; ended.err.bytes(), b"REFUSED 2 0\n".as_slice());
+        assert_eq!(rt; ended.err.bytes(), line);
         assert_eq!(rt; ended.code, 1);
+    }
+    Ok(())
+}
+
+// `SELECT`, a space, and this bracket so many times.
+fn brackets(alloc: Global, count: usize) -> Result<Bytes, AllocError> {
+    let mut text = Vec::from_slice(alloc, b"SELECT ")?;
+    for _ in 0..count {
+        text.push(b'(')?;
+    }
+    Ok(Items::from_vec(text))
+}
+
+#[test]
+fn limits(rt: HostRuntime) -> Result<(), Fail> {
+    let alloc = rt.alloc();
+    let table: [(usize, &[u8], u8); 3] = [
+        (200, b"REFUSED 2 0\n", 1),
+        (201, b"LIMIT Nest\n", 6),
+        (1_048_570, b"LIMIT QueryBytes\n", 6),
+    ];
+    for (count, line, code) in table {
+        let ended = run_query(alloc, brackets(alloc, count)?.as_slice(), TABLE)?;
+        assert_eq!(rt; ended.out.bytes(), b"".as_slice());
+        assert_eq!(rt; ended.err.bytes(), line);
+        assert_eq!(rt; ended.code, code);
     }
     Ok(())
 }

@@ -1,4 +1,2 @@
-mod Bytes
 mod Refusals
-mod Tokens
 mod Queries

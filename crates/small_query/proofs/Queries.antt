@@ -9,9 +9,7 @@ use Rattle.sql_ast.specs.declared.token.Lexeme.TheVariants as lexeme
 use Rattle.sql_ast.specs.declared.token.Token.{Token}
 use Rattle.sql_names.specs.declared.words.Reserved.TheVariants as reserved
 use Rattle.sql_ast.specs.declared.words.Sign.TheVariants as sign
-use Rattle.small_query.specs.Fronts.{Splits}
-use Rattle.small_query.specs.Forms.{Says, HasWords, IsName, IsLiteral, column_item, small_tree, NamesOf, names_one, names_more, SmallOf, small_query, SmallText}
-use Rattle.small_query.proofs.Tokens.{splits_once}
+use Rattle.small_query.specs.Forms.{Says, HasWords, IsName, IsLiteral, column_item, small_tree, NamesOf, names_one, names_more, SmallOf, small_query}
 
 -- ---- names
 
@@ -193,9 +191,3 @@ pub small_once : (tokens : List Token) (p q : Query) → SmallOf tokens p → Sm
 small_once tokens p q h g =
     let w = whole tokens p h in
     parts_once w.select w.names w.behind p q w.has (parts_of w.select w.names w.behind q w.six (subst (λ ts. SmallOf ts q) w.cut g))
-
-pub text_once : (bytes : List ℕ) (p q : Query) → SmallText bytes p → SmallText bytes q → p ≡ q
-text_once bytes p q h g = small_once h.0 p q h.2 (subst (λ ts. SmallOf ts q) (splits_once 0 bytes g.0 h.0 g.1 h.1) g.2)
-
-pub spelled_by : (bytes : List ℕ) (tokens : List Token) → Splits 0 bytes tokens → (query : Query) → SmallText bytes query → (p : Query) × SmallOf tokens p
-spelled_by bytes tokens s query h = (query, subst (λ ts. SmallOf ts query) (splits_once 0 bytes h.0 tokens h.1 s) h.2)

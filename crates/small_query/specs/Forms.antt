@@ -18,7 +18,6 @@ use Rattle.sql_ast.specs.declared.token.Lexeme.TheVariants as lexeme
 use Rattle.sql_ast.specs.declared.token.Token.{Token}
 use Rattle.sql_names.specs.declared.words.Reserved.TheVariants as reserved
 use Rattle.sql_ast.specs.declared.words.Sign.TheVariants as sign
-use Rattle.small_query.specs.Fronts.{Splits}
 
 -- ---- the trees of the parts
 
@@ -104,10 +103,6 @@ pub data SmallOf : List Token → Query → Type 0 where
       HasWords select from condition equal → NamesOf names items → IsName table table_name → IsName tested tested_name → IsLiteral value literal →
       SmallOf (select ∷ (names ++ (from ∷ table ∷ condition ∷ tested ∷ equal ∷ value ∷ [])))
       (small_tree select.start items table_name tested_name equal.start literal)
-
--- the small query that a text is
-abbrev pub SmallText : List ℕ → Query → Type 0
-SmallText bytes query = (tokens : List Token) × Splits 0 bytes tokens × SmallOf tokens query
 
 -- a refusal is want of memory, or rule 2 at place 0 where there is no such thing
 abbrev pub Refused : {A : Type 0} → (A → Type 0) → Refusal → Type 0

@@ -219,8 +219,13 @@ fn has_words(select: &Token, from: &Token, condition: &Token, equal: &Token) -> 
         && is_sign(equal, Sign::Equal)
 }
 
-/// The query that tokens spell.
-pub fn read_tokens(alloc: Global, tokens: &[Token]) -> Result<Query, Refusal>
+/// Reads tokens that are a small query as its tree, which has their places.
+///
+/// A small query is `SELECT` names `FROM` name `WHERE` name `=` literal. Commas separate the names of the list, and the
+/// literal is an integer or a text. Names, words and literals have any spelling that the lexer takes.
+///
+/// Other tokens are refused with rule 2 at place 0. `OutOfMemory` says that memory ran out.
+pub fn read_query(alloc: Global, tokens: &[Token]) -> Result<Query, Refusal>
     ensures ok { IfOk result (λ query. SmallOf tokens.now query) }
     ensures refused { IfErr result (λ refusal. Refused (SmallOf tokens.now) refusal) }
 {

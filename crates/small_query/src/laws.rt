@@ -1,9 +1,10 @@
-//! A text is at most one small query.
-ghost use Rattle.std.specs.Prelude.{◌≡◌, ℕ, List};
+//! Tokens spell at most one small query.
+ghost use Rattle.std.specs.Prelude.{◌≡◌, List};
 ghost use Rattle.sql_ast.specs.declared.query.Query.{Query};
-ghost use Rattle.small_query.specs.Forms.{SmallText};
+ghost use Rattle.sql_ast.specs.declared.token.Token.{Token};
+ghost use Rattle.small_query.specs.Forms.{SmallOf};
 
-/// A text that is a small query has one tree.
+/// Tokens that are a small query have one tree.
 pub fn once()
-    ensures { (bytes : List ℕ) (p q : Query) → SmallText bytes p → SmallText bytes q → p ≡ q }
+    ensures { (tokens : List Token) (p q : Query) → SmallOf tokens p → SmallOf tokens q → p ≡ q }
 {}

@@ -53,6 +53,13 @@ impl Tokens {
         self.list.at(index)
     }
 
+    /// The tokens as a slice.
+    pub fn as_slice(&self) -> &[Token]
+        ensures { result.now ≡ self.now.list }
+    {
+        self.list.as_slice()
+    }
+
     /// The length of the text in bytes.
     pub fn end(&self) -> u64
         ensures { result ≡ self.now.end }

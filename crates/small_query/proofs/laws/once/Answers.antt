@@ -1,5 +1,5 @@
-use Rattle.small_query.proofs.Queries.{text_once}
+use Rattle.small_query.proofs.Queries.{small_once}
 use Rattle.small_query.proofs.laws.once.Goals as goal
 
 pub returns : goal.returns
-returns c = text_once
+returns c = small_once

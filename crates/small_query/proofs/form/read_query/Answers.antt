@@ -3,7 +3,7 @@ use Rattle.std.proofs.lemmas.Result.{err_from_is_err_and}
 use Rattle.small_query.specs.Forms.{IsName, IsLiteral, NamesOf, SmallOf, small_query, small_tree}
 use Rattle.small_query.proofs.Queries.{seven_at, has}
 use Rattle.small_query.proofs.Refusals.{refuses}
-use Rattle.small_query.proofs.form.read_tokens.Goals as goal
+use Rattle.small_query.proofs.form.read_query.Goals as goal
 
 pub returns-then-not-has_words-clause-refused : goal.returns-then-not-has_words-clause-refused
 returns-then-not-has_words-clause-refused c =
