@@ -1,0 +1,90 @@
+//! ORDER BY.
+ghost use Rattle.std.specs.Prelude.{◌<◌, ◌≤◌, IfOk};
+ghost use Rattle.fronts.specs.Readers.{many};
+ghost use Rattle.sql_ast.specs.Marks as spec;
+ghost use Rattle.sql_ast.specs.declared.words.Sign.TheVariants as sign;
+ghost use Rattle.sql_grammar.specs.Exprs as exprs;
+ghost use Rattle.parse_expr.specs.Nests.{Nests};
+ghost use Rattle.parse_expr.specs.Reads.{from, reading, turns, Reads};
+
+use crate::cursor::{Read, expect, sees, start_at};
+use crate::marks::Mark;
+use crate::options::{direction, nulls_place};
+use crate::reader::Reader;
+use crate::repeat::one;
+use crate::starts::{Opening, Start};
+use sql_ast::{Expr, Query, Reserved, Sign, Sort};
+use sql_types::{Items, ListType};
+
+impl<'a, E: Fn(usize, Start) -> Read<Expr>, Q: Fn(usize, Opening) -> Read<Query>> Reader<'a, E, Q> {
+    /// `expr [ASC or DESC] [NULLS (FIRST or LAST)]`
+    #[tactic(auto, unfolding(sql_grammar::specs::Exprs::sort))]
+    pub fn sort(&self, at: usize) -> Read<Sort<Expr>>
+        requires below { Nests self.now.tokens.now self.now.from (E.pre self.now.inner) (E.post self.now.inner) (Q.pre self.now.query) (Q.post self.now.query) }
+        requires after { self.now.from < at }
+        ensures reads { Reads self.now.tokens.now (reading self.now.tokens.now exprs.sort (from self.now.tokens.now at)) result }
+        ensures moves { IfOk result (λ p. at ≤ p.1) }
+    {
+        let place = start_at(self.tokens, at);
+        let (expr, at) = self.deeper(at)?;
+        let (descending, at) = direction(self.tokens, at)?;
+        let (nulls, at) = nulls_place(self.tokens, at)?;
+        Ok((
+            Sort {
+                expr,
+                descending,
+                nulls,
+                place,
+            },
+            at,
+        ))
+    }
+
+    /// `"," sort`
+    #[tactic(auto, unfolding(sql_grammar::specs::Exprs::comma_sort))]
+    pub fn comma_sort(&self, at: usize) -> Read<Sort<Expr>>
+        requires below { Nests self.now.tokens.now self.now.from (E.pre self.now.inner) (E.post self.now.inner) (Q.pre self.now.query) (Q.post self.now.query) }
+        requires after { self.now.from ≤ at }
+        ensures reads { Reads self.now.tokens.now (reading self.now.tokens.now exprs.comma_sort (from self.now.tokens.now at)) result }
+        ensures moves { IfOk result (λ p. at < p.1) }
+    {
+        let (_, at) = expect(self.tokens, at, Mark::Sign(Sign::Comma))?;
+        self.sort(at)
+    }
+
+    /// `{"," sort}` behind the sorts that were found.
+    #[tactic(auto, unfolding(fronts::specs::Readers::many))]
+    pub fn more_sorts(&self, at: usize, found: Items<Sort<Expr>>) -> Read<Items<Sort<Expr>>>
+        requires below { Nests self.now.tokens.now self.now.from (E.pre self.now.inner) (E.post self.now.inner) (Q.pre self.now.query) (Q.post self.now.query) }
+        requires after { self.now.from ≤ at }
+        ensures reads { Reads self.now.tokens.now (many (spec.sign sign.Comma) (reading self.now.tokens.now exprs.comma_sort) (turns self.now.tokens.now) found (from self.now.tokens.now at)) result }
+        ensures moves { IfOk result (λ p. at ≤ p.1) }
+    {
+        let mut found = found;
+        let mut at = at;
+        'sorts: while sees(self.tokens, at, Mark::Sign(Sign::Comma)) {
+            let (next, behind) = self.comma_sort(at)?;
+            found.push(next)?;
+            at = behind;
+        }
+        Ok((found, at))
+    }
+
+    /// `[ORDER BY sort {"," sort}]`
+    #[tactic(auto, unfolding(sql_grammar::specs::Exprs::order))]
+    pub fn order(&self, at: usize) -> Read<Items<Sort<Expr>>>
+        requires below { Nests self.now.tokens.now self.now.from (E.pre self.now.inner) (E.post self.now.inner) (Q.pre self.now.query) (Q.post self.now.query) }
+        requires after { self.now.from ≤ at }
+        ensures reads { Reads self.now.tokens.now (reading self.now.tokens.now exprs.order (from self.now.tokens.now at)) result }
+        ensures moves { IfOk result (λ p. at ≤ p.1) }
+    {
+        if sees(self.tokens, at, Mark::Reserved(Reserved::Order)) {
+            let (_, at) = expect(self.tokens, at, Mark::Reserved(Reserved::Order))?;
+            let (_, at) = expect(self.tokens, at, Mark::Reserved(Reserved::By))?;
+            let (first, at) = self.sort(at)?;
+            self.more_sorts(at, one(self.alloc, first)?)
+        } else {
+            Ok((Items::start(self.alloc), at))
+        }
+    }
+}
