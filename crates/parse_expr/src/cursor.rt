@@ -1,5 +1,5 @@
 //! The token at a place of a text, and the refusal there.
-ghost use Rattle.std.specs.Prelude.{◌≡◌, ◌<◌, true, IfOk};
+ghost use Rattle.std.specs.Prelude.{◌≡◌, ◌+◌, ◌^◌, ◌<◌, true, IfOk, OnSome};
 ghost use Rattle.fronts.specs.Readers.{comes, next, refuse, token};
 ghost use Rattle.sql_ast.specs.Marks as spec;
 ghost use Rattle.sql_grammar.specs.Exprs.{starred};
@@ -18,7 +18,8 @@ pub type Read<T> = Result<(T, usize), Refusal>;
 
 /// The token at a place, if one stands there.
 pub fn token_at<'a>(tokens: &'a Tokens, at: usize) -> Option<&'a Token>
-    ensures { Stands tokens.now at result }
+    ensures stands { Stands tokens.now at result }
+    ensures room { OnSome result (at + 1 < 2 ^ 64) }
 {
     if at < tokens.len() {
         Some(tokens.at(at))
@@ -99,49 +100,62 @@ pub fn expect_marked<'a>(
 }
 
 /// The same of an operator or a mark, as a token of its own.
+#[tactic(auto, unfolding(fronts::specs::Readers::token, sql_ast::specs::Marks::same_sign))]
 pub fn expect_sign(tokens: &Tokens, at: usize, sign: Sign) -> Read<Token>
     ensures reads { Reads tokens.now (token (spec.sign sign) (from tokens.now at)) result }
     ensures moves { IfOk result (λ p. at < p.1) }
 {
-    let (token, at) = expect_marked(tokens, at, Mark::Sign(sign))?;
-    Ok((
-        Token {
-            lexeme: Lexeme::Sign(sign),
-            start: token.start,
-            end: token.end,
+    match token_at(tokens, at) {
+        Some(token) => match &token.lexeme {
+            Lexeme::Sign(found) => {
+                if sign == *found {
+                    let lexeme = Lexeme::Sign(*found);
+                    let start = token.start;
+                    let end = token.end;
+                    Ok((Token { lexeme, start, end }, at + 1))
+                } else {
+                    Err(refusal_at(tokens, at))
+                }
+            }
+            _ => Err(refusal_at(tokens, at)),
         },
-        at,
-    ))
-}
-
-/// The same of a reserved word, as a token of its own.
-pub fn expect_word(tokens: &Tokens, at: usize, word: Reserved) -> Read<Token>
-    ensures reads { Reads tokens.now (token (spec.reserved word) (from tokens.now at)) result }
-    ensures moves { IfOk result (λ p. at < p.1) }
-{
-    let (token, at) = expect_marked(tokens, at, Mark::Reserved(word))?;
-    Ok((
-        Token {
-            lexeme: Lexeme::Reserved(word),
-            start: token.start,
-            end: token.end,
-        },
-        at,
-    ))
+        None => Err(refusal_at(tokens, at)),
+    }
 }
 
 /// The same of `*`, where one is permitted.
+#[tactic(auto, unfolding(fronts::specs::Readers::token, sql_ast::specs::Marks::same_sign))]
 pub fn expect_star(tokens: &Tokens, at: usize, permitted: bool) -> Read<Token>
     ensures reads { Reads tokens.now (token (starred permitted) (from tokens.now at)) result }
     ensures moves { IfOk result (λ p. at < p.1) }
 {
-    let (token, at) = expect_marked(tokens, at, Mark::StarIf(permitted))?;
-    Ok((
-        Token {
-            lexeme: Lexeme::Sign(Sign::Star),
-            start: token.start,
-            end: token.end,
+    if permitted {
+        expect_sign(tokens, at, Sign::Star)
+    } else {
+        Err(refusal_at(tokens, at))
+    }
+}
+
+/// The same of a reserved word, as a token of its own.
+#[tactic(auto, unfolding(fronts::specs::Readers::token, sql_ast::specs::Marks::same_reserved))]
+pub fn expect_word(tokens: &Tokens, at: usize, word: Reserved) -> Read<Token>
+    ensures reads { Reads tokens.now (token (spec.reserved word) (from tokens.now at)) result }
+    ensures moves { IfOk result (λ p. at < p.1) }
+{
+    match token_at(tokens, at) {
+        Some(token) => match &token.lexeme {
+            Lexeme::Reserved(found) => {
+                if word == *found {
+                    let lexeme = Lexeme::Reserved(*found);
+                    let start = token.start;
+                    let end = token.end;
+                    Ok((Token { lexeme, start, end }, at + 1))
+                } else {
+                    Err(refusal_at(tokens, at))
+                }
+            }
+            _ => Err(refusal_at(tokens, at)),
         },
-        at,
-    ))
+        None => Err(refusal_at(tokens, at)),
+    }
 }

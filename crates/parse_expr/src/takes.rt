@@ -136,15 +136,21 @@ fn begins_join(token: &Token) -> bool
     )
 }
 
+/// Whether a token begins a join that may stand behind a comma.
+fn begins_later_join(token: &Token) -> bool
+    ensures { result ≡ classes.goes_after_comma (classes.join_class token.now.lexeme) }
+{
+    matches!(
+        token.lexeme,
+        Lexeme::Reserved(Reserved::Cross | Reserved::Inner | Reserved::Join | Reserved::Left)
+    )
+}
+
 /// Whether a token is a comma, or begins a join that may stand behind one.
 fn begins_later(token: &Token) -> bool
     ensures { result ≡ classes.comma_or_join token.now }
 {
-    matches!(
-        token.lexeme,
-        Lexeme::Sign(Sign::Comma)
-            | Lexeme::Reserved(Reserved::Cross | Reserved::Inner | Reserved::Join | Reserved::Left)
-    )
+    is_sign(token, Sign::Comma) || begins_later_join(token)
 }
 
 /// Whether a mark stands for a token.
