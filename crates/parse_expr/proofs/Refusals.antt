@@ -1,6 +1,6 @@
 -- A refusal of one part is the refusal of what it is a part of.
 use Rattle.std.proofs.Common.{◌≡◌, ℕ, Bool, true, false, List, [], ◌∷◌, ap, refl, sym, ◌∙◌}
-use Rattle.fronts.specs.Readers.{Outcome, taken, stuck, and_then}
+use Rattle.fronts.specs.Readers.{Outcome, taken, stuck, refuse, and_then}
 use Rattle.sql_ast.specs.declared.token.Token.{Token}
 use Rattle.sql_ast.specs.declared.refusal.Refusal.{Refusal}
 use Rattle.sql_ast.specs.declared.refusal.Refusal.TheVariants.{Rule, OutOfMemory}
@@ -19,3 +19,7 @@ refused_as text o p OutOfMemory f h = tt
 
 pub refused_same : {A : Type 0} (text : Tokens) (o p : Outcome Token A) (e : Refusal) → p ≡ o → Refuses text o e → Refuses text p e
 refused_same text o p e is h = refused_as text o p e (λ rest f. is ∙ f) h
+
+-- the refusal of what stands here
+pub refused_here : {A : Type 0} (text : Tokens) (ts : List Token) (o : Outcome Token A) (e : Refusal) → o ≡ stuck ts → Refuses text (refuse {A = Unit {0}} ts) e → Refuses text o e
+refused_here text ts o e is h = refused_as text (refuse {A = Unit {0}} ts) o e (λ rest f. let g : ts ≡ rest = cc in is ∙ ap stuck g) h
