@@ -1,0 +1,4 @@
+pub mod Refusals
+pub mod Loops
+pub mod Cells
+pub mod TypeLevels

@@ -1,0 +1,16 @@
+//! Reads expressions: a recursive descent that looks one token ahead.
+#![tactic(auto)]
+
+pub mod cursor;
+pub mod marks;
+pub mod names;
+pub mod options;
+pub mod repeat;
+pub mod saying;
+pub mod takes;
+pub mod telling;
+pub mod type_starts;
+pub mod types;
+
+pub use cursor::{Read, expect, refusal_at, sees, start_at, token_at};
+pub use marks::Mark;
