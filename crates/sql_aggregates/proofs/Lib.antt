@@ -1,0 +1,4 @@
+pub mod IdentityOpens
+pub mod IdentityLaws
+pub mod ChoosingLaws
+pub mod AddableLaws
