@@ -2,6 +2,8 @@
 use Rattle.std.proofs.Common.{◌≡◌, ℕ, zero, suc, ◌+◌, ◌-◌, ◌<◌, Bool, true, false, List, [], ◌∷◌, ◌++◌, map, length, take, drop, refl, ap, sym, ◌∙◌, subst, arith, inl, inr, None}
 use Rattle.std.specs.Prelude.{◌⊎◌, codes}
 use Rattle.std.specs.List.{Contains, list_all}
+use Rattle.std.specs.Str.{is_utf8, chars}
+use lib.Utf8.{encode}
 use Rattle.std.proofs.lemmas.Bool.{false≢true}
 use Rattle.sql_types.specs.declared.sql_type.Named.{Named}
 use Rattle.sql_types.specs.declared.sql_type.SqlType.{SqlType, out-SqlType}
@@ -127,7 +129,8 @@ first_fits : (s : SqlType) (types : List SqlType) (list : List Value) → fits_t
 first_fits s types [] fit = absurd (false≢true fit)
 first_fits s types (x ∷ xs) fit = left_of _ _ fit
 
-pub comma_fits : fits ty.Text (value.Text (codes ",")) ≡ true
+comma_fits : fits ty.Text (value.Text (codes ",")) ≡ true
+unfolding is_utf8 chars encode
 comma_fits = fits_by ty.Text (value.Text (codes ",")) t.Text (v.Text (codes ",")) ty.outs-Text (value.outs-Text (codes ","))
 
 types_long : (types : List SqlType) (list : List Value) → fits_types types list ≡ true → length list ≡ length types
@@ -158,10 +161,10 @@ IsTexts n list = (fits ty.Text (first list) ≡ true) × (fits ty.Text (separato
 texts_by : (types sorts : List SqlType) (list : List Value) (n : ℕ) → n ≡ length sorts → fits_types (types ++ sorts) list ≡ true → (types ≡ ty.Text ∷ []) ⊎ (types ≡ ty.Text ∷ ty.Text ∷ []) → IsTexts n list
 texts_by types sorts list n long fit (inl one) =
     let fit_one : fits_types (ty.Text ∷ sorts) list ≡ true = subst (λ z. fits_types (z ++ sorts) list ≡ true) one fit in
-    (first_fits _ _ list fit_one, one_text sorts list fit_one n long)
+    (first_fits ty.Text sorts list fit_one, one_text sorts list fit_one n long)
 texts_by types sorts list n long fit (inr two) =
     let fit_two : fits_types (ty.Text ∷ ty.Text ∷ sorts) list ≡ true = subst (λ z. fits_types (z ++ sorts) list ≡ true) two fit in
-    (first_fits _ _ list fit_two, two_texts sorts list fit_two n long)
+    (first_fits ty.Text (ty.Text ∷ sorts) list fit_two, two_texts sorts list fit_two n long)
 
 pub is_texts : (call : AggCall) (lists : List (List Value)) → AllAddable call lists → call.name ≡ name.StringAgg → (list : List Value) → Contains lists list → IsTexts (length call.order) list
 is_texts call lists addable named list c =

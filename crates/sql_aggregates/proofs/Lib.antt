@@ -2,3 +2,5 @@ pub mod IdentityOpens
 pub mod IdentityLaws
 pub mod ChoosingLaws
 pub mod AddableLaws
+pub mod MeansLaws
+pub mod TextLaws

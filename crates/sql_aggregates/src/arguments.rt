@@ -2,7 +2,7 @@
 ghost use Rattle.std.specs.Prelude.{◌≡◌, IfOk, map};
 ghost use Rattle.sql_types.specs.declared.value.Value.{out-Value};
 ghost use Rattle.sql_types.specs.Before.{is_null};
-ghost use Rattle.sql_aggregates.specs.Lists as lists;
+ghost use Rattle.sql_aggregates.specs.Lists.{first, null_argument};
 
 use sql_types::{Items, Value, Values, copy_value};
 use std::alloc::{AllocError, Global};
@@ -20,7 +20,7 @@ pub(crate) fn copy_list(alloc: Global, values: &[Value]) -> Result<Values, Alloc
 
 /// Whether there is an argument, and the first one is NULL.
 pub(crate) fn is_null_argument(list: &[Value]) -> bool
-    ensures { result ≡ lists.null_argument list.now }
+    ensures { result ≡ null_argument list.now }
 {
     match list {
         [value, ..] => is_null(value),
@@ -39,13 +39,13 @@ pub(crate) fn is_null(value: &Value) -> bool
 
 /// The first arguments of the lists.
 pub(crate) fn firsts(alloc: Global, lists: Vec<Values>) -> Result<Vec<Value>, AllocError>
-    ensures { IfOk result (λ values. values.items ≡ map lists.first lists.items) }
+    ensures { IfOk result (λ values. values.items ≡ map first lists.items) }
 {
     lists.into_iter().map(take_first).collect(alloc)
 }
 
 fn take_first(mut list: Values) -> Value
-    ensures { result ≡ lists.first list }
+    ensures { result ≡ first list }
 {
     if list.is_empty() {
         return Value::Null;

@@ -1,6 +1,6 @@
 //! Calls of aggregates.
 ghost use Rattle.std.specs.Prelude.{◌≡◌, IfOk};
-ghost use Rattle.sql_aggregates.specs.Lists as lists;
+ghost use Rattle.sql_aggregates.specs.Lists.{skips};
 
 use sql_types::{Items, SortItems};
 use std::alloc::{AllocError, Global};
@@ -49,7 +49,7 @@ pub(crate) fn copy_call(alloc: Global, call: &AggCall) -> Result<AggCall, AllocE
 
 /// Whether the aggregate leaves out a list whose first argument is NULL.
 pub(crate) fn skips_nulls(call: &AggCall) -> bool
-    ensures { result ≡ lists.skips call.now.name call.now.ignore_nulls }
+    ensures { result ≡ skips call.now.name call.now.ignore_nulls }
 {
     match call.name {
         AggName::ArrayAgg => call.ignore_nulls,
