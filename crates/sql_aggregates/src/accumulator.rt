@@ -24,11 +24,12 @@ pub struct Accumulator {
 }
 
 impl Model for Accumulator {
-    ghost use Rattle.std.specs.Prelude.{◌≡◌, true};
-    ghost use Rattle.sql_aggregates.specs.Accumulated.{Accumulated};
+    ghost use Rattle.sql_aggregates.specs.Accumulated.{Accumulated, accumulated_code};
     ghost use Rattle.sql_aggregates.specs.Calls.{AllAddable};
 
     ghost Value = { Accumulated };
+
+    ghost coded = { accumulated_code };
 
     ghost view = { λ a. record { call = a.call; added = a.added.items } };
 

@@ -1,5 +1,5 @@
 //! Counts and totals.
-ghost use Rattle.std.specs.Prelude.{◌≡◌, ℕ, length};
+ghost use Rattle.std.specs.Prelude.{◌≡◌, pos, negsuc, ◌≤ℤ◌};
 ghost use Rattle.sql_types.specs.declared.value.Value.{out-Value};
 ghost use Rattle.sql_types.specs.Takes as takes;
 ghost use Rattle.sql_aggregates.specs.Aggregates as rows;
@@ -59,7 +59,9 @@ fn total(values: &[Value]) -> i128
 }
 
 fn number(value: &Value) -> i128
-    ensures { result ≡ takes.number value.now }
+    ensures value { result ≡ takes.number value.now }
+    ensures low { negsuc 9223372036854775807 ≤ℤ result }
+    ensures high { result ≤ℤ pos 18446744073709551615 }
 {
     match value {
         Value::Int(number) => i128::from(*number),

@@ -1,5 +1,5 @@
 //! The texts of a list, joined.
-ghost use Rattle.std.specs.Prelude.{◌≡◌, IfOk, true};
+ghost use Rattle.std.specs.Prelude.{◌≡◌, ◌++◌, IfOk, string_bytes, true};
 ghost use Rattle.std.specs.List.{list_all};
 ghost use Rattle.sql_types.specs.declared.sql_type.SqlType.TheVariants as types;
 ghost use Rattle.sql_types.specs.Fits.{fits};
@@ -25,18 +25,34 @@ pub(crate) fn joined(alloc: Global, separator: &Value, texts: &[Value]) -> Resul
     requires texts { list_all (fits types.Text) texts.now ≡ true }
     ensures { IfOk result (λ v. v ≡ rows.joined separator.now texts.now) }
 {
-    let Value::Text(between) = separator else {
-        return Ok(Value::Null);
-    };
-    let [first, rest @ ..] = texts else {
-        return Ok(Value::Null);
-    };
+    match separator {
+        Value::Text(between) => match texts {
+            [first, rest @ ..] => {
+                let text = joined_texts(alloc, between.as_str(), first, rest)?;
+                Ok(Value::Text(Text::from_string(text)))
+            }
+            [] => Ok(Value::Null),
+        },
+        _ => Ok(Value::Null),
+    }
+}
+
+fn joined_texts(
+    alloc: Global,
+    between: &str,
+    first: &Value,
+    rest: &[Value],
+) -> Result<String, AllocError>
+    requires first { fits types.Text first.now ≡ true }
+    requires rest { list_all (fits types.Text) rest.now ≡ true }
+    ensures { IfOk result (λ text. string_bytes text ≡ takes.content first.now ++ rows.continued between.now rest.now) }
+{
     let mut text = String::from_str(alloc, text_of(first))?;
     for value in rest {
-        text.push_str(between.as_str())?;
+        text.push_str(between)?;
         text.push_str(text_of(value))?;
     }
-    Ok(Value::Text(Text::from_string(text)))
+    Ok(text)
 }
 
 /// The text of a STRING. That of NULL is empty.

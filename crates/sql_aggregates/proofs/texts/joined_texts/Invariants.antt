@@ -6,10 +6,10 @@ use Rattle.sql_types.specs.declared.sql_type.SqlType.TheVariants as types
 use Rattle.sql_types.specs.Fits.{fits}
 use Rattle.sql_types.specs.Takes.{content}
 use Rattle.sql_aggregates.specs.Aggregates as rows
-use Rattle.sql_aggregates.proofs.texts.joined.Given as goal
+use Rattle.sql_aggregates.proofs.texts.joined_texts.Given as goal
 
 abbrev pub invariant-loop-value : goal.invariant-loop-value
 invariant-loop-value l = record {
-  so_far : string_bytes l.text ++ rows.continued (content l.separator) (drop l.value-index l.rest) ≡ content l.first ++ rows.continued (content l.separator) l.rest;
+  so_far : string_bytes l.text ++ rows.continued l.between (drop l.value-index l.rest) ≡ content l.fn.first ++ rows.continued l.between l.rest;
   fit : list_all (fits types.Text) (drop l.value-index l.rest) ≡ true;
 }
