@@ -4,3 +4,4 @@ pub mod ChoosingLaws
 pub mod AddableLaws
 pub mod MeansLaws
 pub mod TextLaws
+mod TestLaws

@@ -1,208 +1,130 @@
 //! Each aggregate on a few values, and the order of all values.
-ghost use Rattle.std.specs.Prelude.{◌≡◌, ◌∷◌, ◌×◌, [], true, false, IfOk, length};
-ghost use Rattle.sql_types.specs.Comparable.{groupable, orderable};
-ghost use Rattle.sql_aggregates.specs.Calls.{lawful, TakesTypes};
+ghost use Rattle.std.specs.Prelude.{◌≡◌, ◌∷◌, [], true, false, length, IfOk};
+ghost use Rattle.sql_types.specs.Comparable.{groupable};
+ghost use Rattle.sql_types.specs.declared.sql_type.SqlType.TheVariants as types;
+ghost use Rattle.sql_types.specs.Fits.{fits};
+ghost use Rattle.sql_aggregates.specs.Calls.{lawful, places_from, TakesTypes};
 
 use crate::{Accumulator, AggCall, AggName, identity_order, identity_order_of_rows};
+use Plain::{Int, Null, Truth, Uint, Word};
 use sql_types::{
-    CallFault, FaultKind, Items, SortItem, SqlType, Text, Value, copy_value, fits, same,
+    CallFault, FaultKind, Items, SortItem, SqlType, Text, Value, copy_value, fits, groupable, same,
 };
 use std::alloc::{AllocError, Global};
 use std::cmp::Ordering;
 use std::process::Abort;
 use std::test::Fail;
 
-/// A value as it is written in a table.
+/// A value as it is written in a table, or OUT_OF_RANGE.
 #[derive(Clone, Copy)]
 enum Plain {
     Null,
-    Bool(bool),
+    Truth(bool),
     Int(i64),
     Uint(u64),
-    Text(&'static str),
+    Word(&'static str),
     /// An ARRAY of one NULL.
     OneNull,
+    OutOfRange,
 }
 
-/// The type of the values of a row of the table.
-#[derive(Clone, Copy)]
-enum Form {
-    Bool,
-    Int64,
-    Uint64,
-    Text,
-}
+/// An aggregate, the values of its argument, and the answer.
+type Case = (AggName, &'static [Plain], Plain);
 
-/// An aggregate, whether it has DISTINCT, the type of its argument, the values, and the answer; None is OUT_OF_RANGE.
-type Case = (AggName, bool, Form, &'static [Plain], Option<Plain>);
-
-const NUMBERS: [Case; 12] = [
-    (AggName::Count, false, Form::Int64, &[], Some(Plain::Int(0))),
-    (
-        AggName::Count,
-        false,
-        Form::Int64,
-        &[Plain::Int(5), Plain::Null],
-        Some(Plain::Int(1)),
-    ),
-    (
-        AggName::Count,
-        true,
-        Form::Int64,
-        &[Plain::Int(5), Plain::Null, Plain::Int(5), Plain::Int(4)],
-        Some(Plain::Int(2)),
-    ),
+const NUMBERS: [Case; 11] = [
+    (AggName::Count, &[], Int(0)),
+    (AggName::Count, &[Int(5), Null, Int(5)], Int(2)),
+    (AggName::Sum, &[Int(300), Null, Int(50)], Int(350)),
     (
         AggName::Sum,
-        false,
-        Form::Int64,
-        &[Plain::Int(300), Plain::Null, Plain::Int(50)],
-        Some(Plain::Int(350)),
+        &[Int(i64::MAX), Int(1), Int(-1)],
+        Int(i64::MAX),
     ),
-    (
-        AggName::Sum,
-        false,
-        Form::Int64,
-        &[Plain::Int(i64::MAX), Plain::Int(1), Plain::Int(-1)],
-        Some(Plain::Int(i64::MAX)),
-    ),
-    (
-        AggName::Sum,
-        false,
-        Form::Int64,
-        &[Plain::Int(i64::MAX), Plain::Int(1)],
-        None,
-    ),
-    (
-        AggName::Sum,
-        false,
-        Form::Int64,
-        &[Plain::Null],
-        Some(Plain::Null),
-    ),
-    (
-        AggName::Sum,
-        false,
-        Form::Uint64,
-        &[Plain::Uint(u64::MAX), Plain::Uint(0)],
-        Some(Plain::Uint(u64::MAX)),
-    ),
-    (
-        AggName::Min,
-        false,
-        Form::Int64,
-        &[Plain::Null, Plain::Int(2), Plain::Int(1), Plain::Int(2)],
-        Some(Plain::Int(1)),
-    ),
-    (
-        AggName::Max,
-        false,
-        Form::Int64,
-        &[Plain::Null, Plain::Int(1), Plain::Int(2), Plain::Int(1)],
-        Some(Plain::Int(2)),
-    ),
-    (AggName::Min, false, Form::Int64, &[], Some(Plain::Null)),
-    (
-        AggName::AnyValue,
-        false,
-        Form::Int64,
-        &[Plain::Null],
-        Some(Plain::Null),
-    ),
+    (AggName::Sum, &[Int(i64::MAX), Int(1)], Plain::OutOfRange),
+    (AggName::Sum, &[Null], Null),
+    (AggName::Min, &[Null, Int(2), Int(1), Int(2)], Int(1)),
+    (AggName::Max, &[Null, Int(1), Int(2), Int(1)], Int(2)),
+    (AggName::Min, &[], Null),
+    (AggName::AnyValue, &[Null], Null),
+    (AggName::AnyValue, &[Int(7)], Int(7)),
 ];
+
+const UNSIGNED: Case = (AggName::Sum, &[Uint(u64::MAX), Uint(0)], Uint(u64::MAX));
 
 #[test]
 fn numbers(rt: HostRuntime) -> Result<(), Fail> {
     for case in NUMBERS {
-        check(&rt, rt.alloc(), case)?;
+        check(&rt, rt.alloc(), false, &SqlType::Int64, case)?;
     }
-    Ok(())
+    check(&rt, rt.alloc(), false, &SqlType::Uint64, UNSIGNED)
 }
 
-const OTHERS: [Case; 10] = [
-    (
-        AggName::CountIf,
-        false,
-        Form::Bool,
-        &[Plain::Bool(true), Plain::Bool(false), Plain::Null],
-        Some(Plain::Int(1)),
-    ),
-    (
-        AggName::LogicalAnd,
-        false,
-        Form::Bool,
-        &[Plain::Bool(true), Plain::Null],
-        Some(Plain::Bool(true)),
-    ),
-    (
-        AggName::LogicalAnd,
-        false,
-        Form::Bool,
-        &[Plain::Null],
-        Some(Plain::Null),
-    ),
+const TRUTHS: [Case; 5] = [
+    (AggName::CountIf, &[Truth(true), Truth(false), Null], Int(1)),
+    (AggName::LogicalAnd, &[Truth(true), Null], Truth(true)),
+    (AggName::LogicalAnd, &[Null], Null),
     (
         AggName::LogicalOr,
-        false,
-        Form::Bool,
-        &[Plain::Bool(false), Plain::Bool(true)],
-        Some(Plain::Bool(true)),
+        &[Truth(false), Truth(true)],
+        Truth(true),
     ),
-    (
-        AggName::LogicalOr,
-        false,
-        Form::Bool,
-        &[],
-        Some(Plain::Null),
-    ),
-    (
-        AggName::StringAgg,
-        false,
-        Form::Text,
-        &[Plain::Text("a")],
-        Some(Plain::Text("a")),
-    ),
-    (
-        AggName::StringAgg,
-        true,
-        Form::Text,
-        &[Plain::Text("a"), Plain::Null, Plain::Text("a")],
-        Some(Plain::Text("a")),
-    ),
-    (
-        AggName::ArrayAgg,
-        false,
-        Form::Text,
-        &[Plain::Null],
-        Some(Plain::OneNull),
-    ),
-    (
-        AggName::ArrayAgg,
-        true,
-        Form::Text,
-        &[Plain::Null, Plain::Null],
-        Some(Plain::OneNull),
-    ),
-    (AggName::ArrayAgg, false, Form::Text, &[], Some(Plain::Null)),
+    (AggName::LogicalOr, &[], Null),
 ];
 
 #[test]
-fn truths_and_texts(rt: HostRuntime) -> Result<(), Fail> {
-    for case in OTHERS {
-        check(&rt, rt.alloc(), case)?;
+fn truths(rt: HostRuntime) -> Result<(), Fail> {
+    for case in TRUTHS {
+        check(&rt, rt.alloc(), false, &SqlType::Bool, case)?;
     }
     Ok(())
 }
 
-fn check<R: Abort>(rt: &R, alloc: Global, case: Case) -> Result<(), Fail> {
-    let (name, distinct, form, values, answer) = case;
-    let ty = type_of(form);
-    assert!(rt; takes(name, &ty));
+const WORDS: [Case; 4] = [
+    (AggName::StringAgg, &[Null, Word("a")], Word("a")),
+    (AggName::ArrayAgg, &[Null], Plain::OneNull),
+    (AggName::ArrayAgg, &[], Null),
+    (AggName::StringAgg, &[Null], Null),
+];
+
+const DISTINCT: [Case; 3] = [
+    (
+        AggName::Count,
+        &[Word("a"), Null, Word("a"), Word("b")],
+        Int(2),
+    ),
+    (AggName::StringAgg, &[Word("a"), Null, Word("a")], Word("a")),
+    (AggName::ArrayAgg, &[Null, Null], Plain::OneNull),
+];
+
+#[test]
+fn words(rt: HostRuntime) -> Result<(), Fail> {
+    for case in WORDS {
+        check(&rt, rt.alloc(), false, &SqlType::Text, case)?;
+    }
+    for case in DISTINCT {
+        check(&rt, rt.alloc(), true, &SqlType::Text, case)?;
+    }
+    Ok(())
+}
+
+fn check<R: Abort>(
+    rt: &R,
+    alloc: Global,
+    distinct: bool,
+    ty: &SqlType,
+    case: Case,
+) -> Result<(), Fail> {
+    let (name, values, answer) = case;
+    assert!(rt; takes(name, ty));
+    assert!(rt; groupable(ty));
     let call = call_of(alloc, name, distinct);
-    match (aggregate(rt, alloc, &call, &ty, values)?, answer) {
-        (Ok(got), Some(answer)) => assert!(rt; same(&got, &value(alloc, answer)?)),
-        (Err(CallFault::Fault(FaultKind::OutOfRange)), None) => {}
-        _ => panic!(rt; "another answer"),
+    let want = value(alloc, answer)?;
+    match aggregate(rt, alloc, &call, ty, values)? {
+        Ok(got) => assert!(rt; same(&got, &want)),
+        Err(fault) => {
+            assert!(rt; matches!(answer, Plain::OutOfRange));
+            assert_eq!(rt; fault, CallFault::Fault(FaultKind::OutOfRange));
+        }
     }
     Ok(())
 }
@@ -222,8 +144,7 @@ fn aggregate<R: Abort>(
 {
     let mut accumulator = Accumulator::start(alloc, call)?;
     for plain in values {
-        let list = [value(alloc, *plain)?];
-        assert!(rt; fits(&list[0], ty));
+        let list = [fitting(rt, alloc, ty, *plain)?];
         accumulator.add(&list)?;
     }
     Ok(accumulator.finish())
@@ -231,6 +152,7 @@ fn aggregate<R: Abort>(
 
 fn call_of(alloc: Global, name: AggName, distinct: bool) -> AggCall
     ensures name { result.name ≡ name }
+    ensures distinct { result.distinct ≡ distinct }
     ensures order { result.order ≡ [] }
     ensures lawful { lawful result ≡ true }
 {
@@ -243,38 +165,41 @@ fn call_of(alloc: Global, name: AggName, distinct: bool) -> AggCall
     }
 }
 
-fn type_of(form: Form) -> SqlType
-    ensures { groupable result ≡ true }
-{
-    match form {
-        Form::Bool => SqlType::Bool,
-        Form::Int64 => SqlType::Int64,
-        Form::Uint64 => SqlType::Uint64,
-        Form::Text => SqlType::Text,
-    }
-}
-
 /// Whether the aggregate takes an argument of this type.
 fn takes(name: AggName, ty: &SqlType) -> bool
     ensures { result ≡ true → TakesTypes name (ty.now ∷ []) }
 {
     match name {
-        AggName::Count | AggName::AnyValue => true,
+        AggName::Count => true,
+        AggName::AnyValue => true,
         AggName::Sum => matches!(ty, SqlType::Int64 | SqlType::Uint64),
-        AggName::Min | AggName::Max => matches!(ty, SqlType::Int64),
-        AggName::CountIf | AggName::LogicalAnd | AggName::LogicalOr => matches!(ty, SqlType::Bool),
-        AggName::StringAgg | AggName::ArrayAgg => matches!(ty, SqlType::Text),
+        AggName::Min => matches!(ty, SqlType::Int64),
+        AggName::Max => matches!(ty, SqlType::Int64),
+        AggName::CountIf => matches!(ty, SqlType::Bool),
+        AggName::LogicalAnd => matches!(ty, SqlType::Bool),
+        AggName::LogicalOr => matches!(ty, SqlType::Bool),
+        AggName::StringAgg => matches!(ty, SqlType::Text),
+        AggName::ArrayAgg => matches!(ty, SqlType::Text),
     }
+}
+
+fn fitting<R: Abort>(rt: &R, alloc: Global, ty: &SqlType, plain: Plain) -> Result<Value, AllocError>
+    ensures { IfOk result (λ v. fits ty.now v ≡ true) }
+{
+    let made = value(alloc, plain)?;
+    assert!(rt; fits(&made, ty));
+    Ok(made)
 }
 
 fn value(alloc: Global, plain: Plain) -> Result<Value, AllocError> {
     match plain {
-        Plain::Null => Ok(Value::Null),
-        Plain::Bool(truth) => Ok(Value::Bool(truth)),
-        Plain::Int(number) => Ok(Value::Int(number)),
-        Plain::Uint(number) => Ok(Value::Uint(number)),
-        Plain::Text(text) => Ok(Value::Text(Text::copy_of(alloc, text)?)),
+        Null => Ok(Value::Null),
+        Truth(truth) => Ok(Value::Bool(truth)),
+        Int(number) => Ok(Value::Int(number)),
+        Uint(number) => Ok(Value::Uint(number)),
+        Word(word) => Ok(Value::Text(Text::copy_of(alloc, word)?)),
         Plain::OneNull => Ok(Value::Array(row_of(alloc, &[Value::Null])?)),
+        Plain::OutOfRange => Ok(Value::Null),
     }
 }
 
@@ -285,11 +210,13 @@ fn rows_are_counted(rt: HostRuntime) -> Result<(), Fail> {
     Ok(())
 }
 
-fn two_rows(alloc: Global) -> Result<Value, Fail> {
-    let mut accumulator = Accumulator::start(alloc, &call_of(alloc, AggName::Count, false))?;
-    accumulator.add(&[])?;
-    accumulator.add(&[])?;
-    accumulator.finish().map_err(|_| Fail::from("no count"))
+fn two_rows(alloc: Global) -> Result<Value, CallFault> {
+    let call = call_of(alloc, AggName::Count, false);
+    let mut accumulator = Accumulator::start(alloc, &call)?;
+    for _ in 0..2 {
+        accumulator.add(&[])?;
+    }
+    accumulator.finish()
 }
 
 /// ARRAY_AGG(x IGNORE NULLS ORDER BY y DESC LIMIT 2), and with LIMIT 0.
@@ -303,24 +230,27 @@ fn elements_in_order(rt: HostRuntime) -> Result<(), Fail> {
 }
 
 /// x and y.
-const PAIRS: [(Plain, i64); 4] = [
-    (Plain::Int(1), 1),
-    (Plain::Null, 4),
-    (Plain::Int(2), 2),
-    (Plain::Int(3), 3),
+const PAIRS: [(Plain, Plain); 4] = [
+    (Int(1), Int(1)),
+    (Null, Int(4)),
+    (Int(2), Int(2)),
+    (Int(3), Int(3)),
 ];
 
-fn pairs_in_order<R: Abort>(rt: &R, alloc: Global, limit: u64) -> Result<Value, Fail> {
+fn pairs_in_order<R: Abort>(rt: &R, alloc: Global, limit: u64) -> Result<Value, CallFault> {
     let mut accumulator = Accumulator::start(alloc, &ordered_call(alloc, limit)?)?;
     for (x, y) in PAIRS {
-        let list = [value(alloc, x)?, Value::Int(y)];
-        assert!(rt; fits(&list[0], &SqlType::Int64) && fits(&list[1], &SqlType::Int64));
+        let x = fitting(rt, alloc, &SqlType::Int64, x)?;
+        let y = fitting(rt, alloc, &SqlType::Int64, y)?;
+        let list = [x, y];
         accumulator.add(&list)?;
     }
-    accumulator.finish().map_err(|_| Fail::from("no array"))
+    accumulator.finish()
 }
 
-fn ordered_call(alloc: Global, limit: u64) -> Result<AggCall, AllocError> {
+fn ordered_call(alloc: Global, limit: u64) -> Result<AggCall, AllocError>
+    ensures { IfOk result (λ call. (call.name ≡ AggName.ArrayAgg) × (call.distinct ≡ false) × (length call.order ≡ 1) × places_from 1 call.order) }
+{
     let mut order = Items::new(alloc);
     order.push(SortItem {
         place: 1,
@@ -341,23 +271,24 @@ fn ordered_call(alloc: Global, limit: u64) -> Result<AggCall, AllocError> {
 fn texts_with_a_separator(rt: HostRuntime) -> Result<(), Fail> {
     let alloc = rt.alloc();
     let want = Value::Text(Text::copy_of(alloc, "a; b")?);
-    assert!(rt; same(&two_texts(&rt, alloc, Plain::Text("; "))?, &want));
-    assert!(rt; same(&two_texts(&rt, alloc, Plain::Null)?, &Value::Null));
+    let separator = fitting(&rt, alloc, &SqlType::Text, Word("; "))?;
+    assert!(rt; same(&two_texts(&rt, alloc, &separator)?, &want));
+    let separator = fitting(&rt, alloc, &SqlType::Text, Null)?;
+    assert!(rt; same(&two_texts(&rt, alloc, &separator)?, &Value::Null));
     Ok(())
 }
 
-fn two_texts<R: Abort>(rt: &R, alloc: Global, separator: Plain) -> Result<Value, Fail> {
-    let mut accumulator = Accumulator::start(alloc, &call_of(alloc, AggName::StringAgg, false))?;
-    let between = value(alloc, separator)?;
-    assert!(rt; fits(&between, &SqlType::Text));
-    for text in ["a", "b"] {
-        let list = [
-            Value::Text(Text::copy_of(alloc, text)?),
-            copy_value(alloc, &between)?,
-        ];
+fn two_texts<R: Abort>(rt: &R, alloc: Global, separator: &Value) -> Result<Value, CallFault>
+    requires { fits types.Text separator.now ≡ true }
+{
+    let call = call_of(alloc, AggName::StringAgg, false);
+    let mut accumulator = Accumulator::start(alloc, &call)?;
+    for text in [Word("a"), Word("b")] {
+        let text = fitting(rt, alloc, &SqlType::Text, text)?;
+        let list = [text, copy_value(alloc, separator)?];
         accumulator.add(&list)?;
     }
-    accumulator.finish().map_err(|_| Fail::from("no text"))
+    accumulator.finish()
 }
 
 #[test]

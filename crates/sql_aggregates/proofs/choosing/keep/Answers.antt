@@ -9,5 +9,5 @@ pub returns : goal.returns
 returns c =
     let skips : c.args.skips ≡ true = search rules in
     let left : c.retain.new.self.items ≡ filter (λ list. not (null_argument list)) c.args.lists.items
-        = filter_same _ _ _ (λ x b f k. (search rules, search rules)) _ _ c.retain.ensures.filtered in
+    = filter_same _ _ _ (λ x b f k. (search rules, search rules)) _ _ c.retain.ensures.filtered in
     left ∙ nulls_left_out c.args.lists.items ∙ sym (ap (λ b. kept b c.args.lists.items) skips)

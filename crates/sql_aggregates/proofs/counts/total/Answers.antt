@@ -25,9 +25,9 @@ loop-value-preserved c =
     let small : FitsSigned w128 c.number-total.result = omega (arith, ints, c.number-total.ensures.low, c.number-total.ensures.high) in
     let same : to_z w128 (of_z w128 c.number-total.result) ≡ c.number-total.result = to_z-of_z w128 _ small in
     let sum : to_z w128 (of_z w128 (to_z w128 c.loop-value.total-bits +ℤ to_z w128 (of_z w128 c.number-total.result))) ≡ to_z w128 c.loop-value.total-bits +ℤ c.number-total.result
-        = to_z-of_z w128 _ (overflow_add-total c) ∙ ap (λ z. to_z w128 c.loop-value.total-bits +ℤ z) same in
+    = to_z-of_z w128 _ (overflow_add-total c) ∙ ap (λ z. to_z w128 c.loop-value.total-bits +ℤ z) same in
     let next : rows.total (drop c.loop-value.value-index c.args.values.now) ≡ c.number-total.result +ℤ rows.total (drop (c.loop-value.value-index + 1) c.args.values.now)
-        = split c.args.values.now c.loop-value.value-index c.value-item.result c.number-total.result (omega arith) c.value-item.is c.number-total.ensures.value in
+    = split c.args.values.now c.loop-value.value-index c.value-item.result c.number-total.result (omega arith) c.value-item.is c.number-total.ensures.value in
     rw sum (record {
       whole = total_more _ _ _ _ _ next c.loop-value.invariant.whole;
       above = omega (arith, ints, c.number-total.ensures.low, c.number-total.ensures.high);
