@@ -1,8 +1,8 @@
 -- The order of all values is total, and only the same values tie.
-use Rattle.std.proofs.Common.{◌≡◌, ℕ, zero, suc, ◌+◌, ◌≤◌, ℤ, pos, Bool, true, false, List, [], ◌∷◌, map, refl, ap, sym, ◌∙◌, subst, arith}
+use Rattle.std.proofs.Common.{◌≡◌, ℕ, zero, suc, ◌+◌, ◌≤◌, ℤ, pos, Bool, true, false, List, [], ◌∷◌, map, refl, ap, sym, ◌∙◌, subst, arith, Decides}
 use Rattle.std.specs.Cmp.{IsTotalOrder}
 use Rattle.std.specs.Cmp.Lexicographic.{slice_cmp}
-use Rattle.std.specs.Ordering.{nat_cmp, int_cmp, ordering_then, ordering_reverse, then_cmp, on, MatchOrdering}
+use Rattle.std.specs.Ordering.{nat_cmp, int_cmp, ordering_then, ordering_reverse, then_cmp, on, is_eq, MatchOrdering}
 use Rattle.std.specs.declared.cmp.Ordering.{Ordering}
 use Rattle.std.specs.declared.cmp.Ordering.TheVariants.{Less, Equal, Greater}
 use Rattle.std.proofs.lemmas.Bool.Decides.{nat_tests}
@@ -225,3 +225,22 @@ rows_tell (x ∷ xs) (y ∷ ys) e =
 
 pub first_total : IsTotalOrder first_order
 first_total = on_total first identity_total
+
+-- ---- a tie, as a test
+
+at_tie : (o : Ordering) → is_eq o ≡ true → o ≡ Equal
+at_tie Less e = cc
+at_tie Equal e = refl
+at_tie Greater e = cc
+
+itself : (x y : Value) → x ≡ y → is_eq (identity_order x y) ≡ true
+itself x y same = ap (λ z. is_eq (identity_order x z)) (sym same) ∙ ap is_eq (identity_itself x)
+
+pub value_ties : (x y : Value) → Decides (is_eq (identity_order x y)) (x ≡ y)
+value_ties x y = (λ tie. identity_tells x y (at_tie (identity_order x y) tie), itself x y)
+
+row_itself : (xs ys : List Value) → xs ≡ ys → is_eq (identity_order_of_rows xs ys) ≡ true
+row_itself xs ys same = ap (λ z. is_eq (identity_order_of_rows xs z)) (sym same) ∙ ap is_eq (tied_itself rows_total xs)
+
+pub row_ties : (xs ys : List Value) → Decides (is_eq (identity_order_of_rows xs ys)) (xs ≡ ys)
+row_ties xs ys = (λ tie. rows_tell xs ys (at_tie (identity_order_of_rows xs ys) tie), row_itself xs ys)

@@ -1,5 +1,5 @@
 //! A total order of all values, in which only the same values tie.
-ghost use Rattle.std.specs.Prelude.{◌≡◌};
+ghost use Rattle.std.specs.Prelude.{◌≡◌, ◌↔◌, IsTrue};
 ghost use Rattle.std.specs.Ordering.{is_eq};
 ghost use Rattle.sql_types.specs.declared.value.Value.{out-Value};
 ghost use Rattle.sql_aggregates.specs.Identity as identity;
@@ -9,9 +9,27 @@ use std::cmp::Ordering;
 
 /// A total order of all values that brings the same ones together: `Equal` exactly where two are the same, NULL the same
 /// as NULL. NULL comes first, and values of one orderable type stand in their order. It takes no memory.
+#[tactic(auto, using(crate::proofs::IdentityLaws::value_ties))]
+pub fn identity_order(left: &Value, right: &Value) -> Ordering
+    ensures order { result ≡ identity.identity_order left.now right.now }
+    ensures ties { IsTrue (is_eq result) ↔ (left.now ≡ right.now) }
+{
+    value_order(left, right)
+}
+
+/// The order of two lists of values, as of the keys of rows: the first values that differ decide, and then the length.
+/// `Equal` exactly where the lists are the same. It takes no memory.
+#[tactic(auto, using(crate::proofs::IdentityLaws::row_ties))]
+pub fn identity_order_of_rows(left: &Values, right: &Values) -> Ordering
+    ensures order { result ≡ identity.identity_order_of_rows left.now right.now }
+    ensures ties { IsTrue (is_eq result) ↔ (left.now ≡ right.now) }
+{
+    row_order(left, right)
+}
+
 #[cycle(identity)]
 #[tactic(auto, using(crate::proofs::IdentityOpens::identity_opens))]
-pub fn identity_order(left: &Value, right: &Value) -> Ordering
+fn value_order(left: &Value, right: &Value) -> Ordering
     ensures { result ≡ identity.identity_order left.now right.now }
 {
     match kind(left).cmp(&kind(right)) {
@@ -20,22 +38,18 @@ pub fn identity_order(left: &Value, right: &Value) -> Ordering
     }
 }
 
-/// The order of two lists of values, as of the keys of rows: the first values that differ decide, and then the length.
-/// It is `Equal` exactly where the lists are the same. It takes no memory.
 #[cycle(identity)]
-pub fn identity_order_of_rows(left: &Values, right: &Values) -> Ordering
+fn row_order(left: &Values, right: &Values) -> Ordering
     ensures { result ≡ identity.identity_order_of_rows left.now right.now }
 {
     let mut rest = right.as_slice();
     for value in left.as_slice() {
         match rest {
             [] => return Ordering::Greater,
-            [other, more @ ..] => {
-                match identity_order(value, other) {
-                    Ordering::Equal => rest = more,
-                    decided => return decided,
-                }
-            }
+            [other, more @ ..] => match value_order(value, other) {
+                Ordering::Equal => rest = more,
+                decided => return decided,
+            },
         }
     }
     if rest.is_empty() {
@@ -52,11 +66,11 @@ fn within_kind(left: &Value, right: &Value) -> Ordering
 {
     match left {
         Value::Array(elements) => match right {
-            Value::Array(others) => identity_order_of_rows(elements, others),
+            Value::Array(others) => row_order(elements, others),
             _ => Ordering::Equal,
         },
         Value::Struct(fields) => match right {
-            Value::Struct(others) => identity_order_of_rows(fields, others),
+            Value::Struct(others) => row_order(fields, others),
             _ => Ordering::Equal,
         },
         _ => order(left, right),

@@ -3,5 +3,5 @@ use Rattle.std.proofs.Common.{◌≡◌, drop}
 use Rattle.sql_aggregates.specs.Identity.{identity_order_of_rows}
 use Rattle.sql_aggregates.proofs.identity.+identity.Given as goal
 
-abbrev pub invariant-identity_order_of_rows-loop-value : goal.invariant-identity_order_of_rows-loop-value
-invariant-identity_order_of_rows-loop-value l = identity_order_of_rows (drop l.value-index l.left) l.rest ≡ identity_order_of_rows l.left l.right
+abbrev pub invariant-row_order-loop-value : goal.invariant-row_order-loop-value
+invariant-row_order-loop-value l = identity_order_of_rows (drop l.value-index l.left) l.rest ≡ identity_order_of_rows l.left l.right
