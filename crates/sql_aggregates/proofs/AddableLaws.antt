@@ -1,15 +1,15 @@
 -- What may be said of lists that may be added to a call.
-use Rattle.std.proofs.Common.{◌≡◌, ℕ, zero, suc, ◌+◌, ◌-◌, ◌<◌, Bool, true, false, List, [], ◌∷◌, ◌++◌, map, length, take, drop, refl, ap, sym, ◌∙◌, subst, arith, inl, inr, None}
+use Rattle.std.proofs.Common.{◌≡◌, ℕ, zero, suc, ◌-◌, Bool, true, List, [], ◌∷◌, ◌++◌, map, length, drop, refl, ap, sym, ◌∙◌, subst, arith, inl, inr, None}
 use Rattle.std.specs.Prelude.{◌⊎◌, codes}
 use Rattle.std.specs.List.{Contains, list_all}
 use Rattle.std.specs.Str.{is_utf8, chars}
 use lib.Utf8.{encode}
 use Rattle.std.proofs.lemmas.Bool.{false≢true}
 use Rattle.sql_types.specs.declared.sql_type.Named.{Named}
-use Rattle.sql_types.specs.declared.sql_type.SqlType.{SqlType, out-SqlType}
+use Rattle.sql_types.specs.declared.sql_type.SqlType.{SqlType}
 use Rattle.sql_types.specs.declared.sql_type.SqlType.TheVariants as ty
 use Rattle.sql_types.specs.declared.sql_type.SqlType.TheOpen as t
-use Rattle.sql_types.specs.declared.value.Value.{Value, out-Value}
+use Rattle.sql_types.specs.declared.value.Value.{Value}
 use Rattle.sql_types.specs.declared.value.Value.TheVariants as value
 use Rattle.sql_types.specs.declared.value.Value.TheOpen as v
 use Rattle.sql_types.specs.declared.kinds.SortItem.{SortItem}
@@ -23,7 +23,7 @@ use Rattle.sql_aggregates.specs.declared.call.AggName.{AggName}
 use Rattle.sql_aggregates.specs.declared.call.AggName.TheVariants as name
 use Rattle.sql_aggregates.specs.declared.call.AggCall.{AggCall}
 use Rattle.sql_aggregates.specs.Lists.{first}
-use Rattle.sql_aggregates.specs.Calls.{TakesTypes, takes_rows, takes_any, takes_truths, takes_signed, takes_unsigned, takes_least, takes_greatest, takes_and, takes_or, takes_texts, takes_separator, takes_elements, takes_one, all_orderable, places_from, Addable, AllAddable}
+use Rattle.sql_aggregates.specs.Calls.{TakesTypes, takes_rows, takes_any, takes_truths, takes_signed, takes_unsigned, takes_least, takes_greatest, takes_and, takes_or, takes_texts, takes_separator, takes_elements, takes_one, all_orderable, places_from, AllAddable}
 use Rattle.sql_aggregates.specs.Aggregates.{separator, arguments}
 use Rattle.sql_aggregates.specs.Sortable.{Sortable}
 

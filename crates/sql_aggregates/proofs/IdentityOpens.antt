@@ -4,7 +4,7 @@ use Rattle.std.specs.declared.cmp.Ordering.{Ordering}
 use Rattle.std.specs.Ordering.{nat_cmp, ordering_then}
 use Rattle.sql_types.specs.declared.value.Value.{Value, map-Value, out-Value, roll-out-Value, fold-roll-Value}
 use Rattle.sql_types.specs.declared.value.Value.TheOpen as v
-use Rattle.sql_aggregates.specs.Identity.{kind, parts_order, within_kind, identity_layer, identity_order, identity_order_of_rows, order_within}
+use Rattle.sql_aggregates.specs.Identity.{kind, parts_order, identity_layer, identity_order, identity_order_of_rows, order_within}
 
 -- the parts of the left value stand as they are
 abbrev pub order_at : v.Value-F Value → v.Value-F Value → Ordering

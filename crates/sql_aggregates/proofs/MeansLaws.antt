@@ -1,5 +1,5 @@
 -- What is left in stages is what a call goes over, and the answer for it is permitted.
-use Rattle.std.proofs.Common.{◌≡◌, List, length, Ok, Err, sym, subst}
+use Rattle.std.proofs.Common.{◌≡◌, List, length, Ok, Err, subst}
 use Rattle.sql_types.specs.declared.value.Value.{Value}
 use Rattle.sql_types.specs.declared.fault.CallFault.{CallFault}
 use Rattle.sql_types.specs.declared.fault.CallFault.TheVariants.{Fault, OutOfMemory}

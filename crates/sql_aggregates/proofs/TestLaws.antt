@@ -1,5 +1,5 @@
 -- That the lists of the tests may be added.
-use Rattle.std.proofs.Common.{◌≡◌, ℕ, Bool, true, false, List, [], ◌∷◌, ◌++◌, length, drop, refl, sym, ap, ◌∙◌, subst, arith, inl, inr, slice_index_or}
+use Rattle.std.proofs.Common.{◌≡◌, ℕ, true, false, List, [], ◌∷◌, ◌++◌, length, drop, refl, sym, ap, ◌∙◌, subst, arith, inl, inr, slice_index_or}
 use Rattle.std.specs.Prelude.{◌⊎◌}
 use Rattle.std.specs.List.{Contains}
 use Rattle.std.proofs.lemmas.Bool.{false≢true}
@@ -11,12 +11,12 @@ use Rattle.sql_types.specs.declared.value.Value.TheVariants.{Null}
 use Rattle.sql_types.specs.Comparable.{groupable, orderable, orderable_layer}
 use Rattle.sql_types.specs.Fits.{fits}
 use Rattle.sql_types.specs.Takes.{fits_types}
-use Rattle.sql_types.proofs.TestParts.{first as left_of, second as right_of}
+use Rattle.sql_types.proofs.TestParts.{second as right_of}
 use Rattle.sql_aggregates.specs.declared.call.AggName.{AggName}
 use Rattle.sql_aggregates.specs.declared.call.AggName.TheVariants as name
 use Rattle.sql_aggregates.specs.declared.call.AggCall.{AggCall}
 use Rattle.sql_aggregates.specs.Lists.{first}
-use Rattle.sql_aggregates.specs.Calls.{TakesTypes, takes_separator, takes_signed, takes_unsigned, takes_elements, is_array, lawful, all_orderable, places_from, each_same, Addable, AllAddable}
+use Rattle.sql_aggregates.specs.Calls.{TakesTypes, takes_separator, takes_signed, takes_unsigned, takes_elements, is_array, lawful, places_from, each_same, AllAddable}
 
 -- each list has a fitting value for each type
 abbrev pub AllFit : List SqlType → List (List Value) → Type 0

@@ -1,4 +1,4 @@
-use Rattle.std.proofs.Common.{rules, ◌≡◌, Bool, true, List, sym, subst}
+use Rattle.std.proofs.Common.{rules, ◌≡◌, true, sym, subst}
 use Rattle.std.specs.List.{dedup}
 use Rattle.std.specs.Ordering.{is_lt}
 use Rattle.std.proofs.lemmas.Fn.{dedup_same, always_returns_same}

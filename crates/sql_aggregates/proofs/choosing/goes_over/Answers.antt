@@ -1,4 +1,4 @@
-use Rattle.std.proofs.Common.{rules, ◌≡◌, sym, subst, ap, ◌∙◌}
+use Rattle.std.proofs.Common.{sym, subst, ap, ◌∙◌}
 use Rattle.sql_aggregates.specs.Lists.{kept}
 use Rattle.sql_aggregates.specs.Sortable.{Sortable}
 use Rattle.sql_types.specs.Arranged.{Arranged}

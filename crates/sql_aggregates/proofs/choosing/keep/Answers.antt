@@ -1,7 +1,7 @@
-use Rattle.std.proofs.Common.{rules, ◌≡◌, ◌∙◌, Bool, true, not, List, sym, ap}
+use Rattle.std.proofs.Common.{rules, ◌≡◌, ◌∙◌, true, not, sym, ap}
 use Rattle.std.specs.List.{filter}
 use Rattle.std.proofs.lemmas.Fn.{filter_same}
-use Rattle.sql_aggregates.specs.Lists.{null_argument, without_nulls, kept}
+use Rattle.sql_aggregates.specs.Lists.{null_argument, kept}
 use Rattle.sql_aggregates.proofs.ChoosingLaws.{nulls_left_out}
 use Rattle.sql_aggregates.proofs.choosing.keep.Goals as goal
 

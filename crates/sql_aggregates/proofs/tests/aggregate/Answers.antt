@@ -1,4 +1,4 @@
-use Rattle.std.proofs.Common.{◌≡◌, [], ◌∷◌, ◌++◌, ap, sym, subst, ◌∙◌}
+use Rattle.std.proofs.Common.{[], ◌∷◌, ◌++◌, ap, sym, subst, ◌∙◌}
 use Rattle.sql_aggregates.specs.Calls.{AllAddable}
 use Rattle.sql_aggregates.proofs.TestLaws.{AllFit, none_fit, one_more_fits, one_fits, singles_addable}
 use Rattle.sql_aggregates.proofs.tests.aggregate.Goals as goal

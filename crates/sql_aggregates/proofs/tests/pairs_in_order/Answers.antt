@@ -1,8 +1,8 @@
-use Rattle.std.proofs.Common.{◌≡◌, [], ◌∷◌, ◌++◌, false, length, ap, sym, subst, ◌∙◌}
+use Rattle.std.proofs.Common.{◌≡◌, [], ◌∷◌, false, length, ap, sym, subst}
 use Rattle.sql_types.specs.declared.sql_type.SqlType.TheVariants as ty
 use Rattle.sql_aggregates.specs.declared.call.AggCall.{AggCall}
 use Rattle.sql_aggregates.specs.declared.call.AggName.TheVariants as name
-use Rattle.sql_aggregates.specs.Calls.{AllAddable, places_from}
+use Rattle.sql_aggregates.specs.Calls.{places_from}
 use Rattle.sql_aggregates.proofs.TestLaws.{AllFit, none_fit, one_more_fits, two_fit, pairs_addable, array_lawful}
 use Rattle.sql_aggregates.proofs.tests.pairs_in_order.Goals as goal
 

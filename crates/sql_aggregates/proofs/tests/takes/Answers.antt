@@ -1,5 +1,5 @@
 -- Each pair that passes is a row.
-use Rattle.std.proofs.Common.{rules, refl, ap}
+use Rattle.std.proofs.Common.{refl, ap}
 use Rattle.sql_types.specs.declared.sql_type.SqlType.TheVariants as ty
 use Rattle.sql_aggregates.specs.Calls.{is_array, takes_any, takes_one, takes_least, takes_greatest, takes_truths, takes_and, takes_or, takes_texts, takes_elements}
 use Rattle.sql_aggregates.proofs.TestLaws.{took, took_sum, int_orders}

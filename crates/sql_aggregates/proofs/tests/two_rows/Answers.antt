@@ -1,4 +1,4 @@
-use Rattle.std.proofs.Common.{◌≡◌, [], ◌∷◌, ◌++◌, refl, ap, sym, subst, ◌∙◌}
+use Rattle.std.proofs.Common.{[], ◌∷◌, ◌++◌, refl, ap, sym, subst, ◌∙◌}
 use Rattle.sql_aggregates.specs.Calls.{AllAddable, TakesTypes, takes_rows}
 use Rattle.sql_aggregates.proofs.TestLaws.{AllFit, none_fit, one_more_fits, rows_addable}
 use Rattle.sql_aggregates.proofs.tests.two_rows.Goals as goal

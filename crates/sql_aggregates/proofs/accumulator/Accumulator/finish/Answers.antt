@@ -1,4 +1,3 @@
-use Rattle.std.proofs.Common.{rules}
 use Rattle.sql_aggregates.proofs.ChoosingLaws.{gone_over}
 use Rattle.sql_aggregates.proofs.AddableLaws.{addable_among}
 use Rattle.sql_aggregates.proofs.accumulator.Accumulator.finish.Goals as goal
