@@ -1,7 +1,6 @@
 -- The aggregates, a row each: what an aggregate answers for the lists of arguments that it goes over. On nothing the counts
 -- are 0, and the others NULL.
-use Rattle.std.specs.Prelude.{◌≡◌, ℕ, suc, ◌+◌, ℤ, pos, ◌+ℤ◌, ◌-◌, take, Bool, true, false, ◌&&◌, ◌||◌, List, [], ◌∷◌, ◌++◌, map, length, codes, Option, None, Some, Result, Ok, Err}
-use Rattle.std.specs.declared.cmp.Ordering.{Ordering}
+use Rattle.std.specs.Prelude.{◌≡◌, ℕ, suc, ℤ, pos, ◌+ℤ◌, ◌-◌, take, Bool, true, false, ◌&&◌, ◌||◌, List, [], ◌∷◌, ◌++◌, map, length, codes, Option, None, Some, Ok}
 use Rattle.std.specs.declared.cmp.Ordering.TheVariants.{Less, Equal, Greater}
 use Rattle.sql_types.specs.declared.value.Value.{Value, out-Value}
 use Rattle.sql_types.specs.declared.value.Value.TheVariants as value

@@ -1,0 +1,7 @@
+pub mod IdentityOpens
+pub mod IdentityLaws
+pub mod ChoosingLaws
+pub mod AddableLaws
+pub mod MeansLaws
+pub mod TextLaws
+mod TestLaws
