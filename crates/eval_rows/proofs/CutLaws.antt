@@ -1,7 +1,8 @@
 -- Rows that are moved to the front of their list.
 use Rattle.std.proofs.Common.{◌≡◌, ℕ, zero, suc, ◌+◌, ◌-◌, ◌<◌, ◌≤◌, ◌≢◌, List, [], ◌∷◌, ◌++◌, length, get_or, set, take, drop, refl, ap, sym, ◌∙◌, arith}
 use Rattle.std.specs.List.{remove}
-use Rattle.std.proofs.lemmas.List.{ext_get_or, get_or-set_same, get_or-set_other, get_or-take, get_or-drop, length-take, length-drop, length-append, length-set, get_or_append_left, get_or_at, drop_more}
+use Rattle.std.proofs.lemmas.List.{ext_get_or, get_or-set_same, get_or-set_other, get_or-take, get_or-drop, length-take, length-drop, length-append, length-set, get_or_append_left, get_or_at, drop_more, drop-take, take_all}
+use Rattle.sql_types.specs.Cut.{cut}
 use Rattle.sql_types.specs.Joined.{Row}
 
 -- Of the last rows of a list, so many as are kept, some wait at the end, and the others stand at their places in front.
@@ -48,8 +49,8 @@ one_moved rows list rest last left_out kept waiting fewer before is =
           get_or-set_other rest waiting (left_out + k) last [] (λ e. omega (arith, m.some)) ∙ sym (get_or_append_left rest (last ∷ []) [] (left_out + k) (omega arith)) ∙ m.waits k (omega arith);
     }
 
-pub all_moved : (rows list : List Row) (left_out kept : ℕ) → kept ≤ left_out → length rows ≡ left_out + kept → Moved rows list left_out kept 0 → take kept list ≡ drop left_out rows
-all_moved rows list left_out kept fewer long m =
+pub all_moved : (rows list : List Row) (left_out kept waiting : ℕ) → kept ≤ left_out → length rows ≡ left_out + kept → waiting ≤ 0 → Moved rows list left_out kept waiting → take kept list ≡ drop left_out rows
+all_moved rows list left_out kept waiting fewer long none m =
     let short : length (take kept list) ≡ kept = length-take kept list ∙ omega (arith, m.long) in
     ext_get_or [] (take kept list) (drop left_out rows) (short ∙ omega (arith, length-drop left_out rows))
     (λ i within. get_or-take kept list i [] (omega arith) ∙ m.moved i (omega arith) (omega arith) ∙ sym (get_or-drop left_out rows i []))
@@ -58,3 +59,11 @@ all_moved rows list left_out kept fewer long m =
 
 pub first_removed : (rows : List Row) (n : ℕ) → n < length rows → remove (drop n rows) 0 ≡ drop (n + 1) rows
 first_removed rows n within = ap (λ (list : List Row). remove list 0) (drop_more rows n [] within)
+
+-- ---- cuts
+
+pub cut_taken : (list short kept : List Row) (skip count : ℕ) → short ≡ take (skip + count) list → kept ≡ drop skip short → kept ≡ cut list skip count
+cut_taken list short kept skip count short_is kept_is = kept_is ∙ ap (λ (z : List Row). drop skip z) short_is ∙ drop-take skip count list
+
+pub cut_whole : (list kept : List Row) (skip count : ℕ) → length list ≤ skip + count → kept ≡ drop skip list → kept ≡ cut list skip count
+cut_whole list kept skip count few kept_is = kept_is ∙ sym (take_all count (drop skip list) (omega (arith, length-drop skip list)))

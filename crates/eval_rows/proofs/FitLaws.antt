@@ -107,7 +107,12 @@ module _ (cs ds : List (Named SqlType)) where
       append_pass (fits_row (cs ++ ds)) (joined.from_left kind (length ds) lefts rights pairs) (joined.from_right kind (length cs) rights pairs)
       (left_fits kind lefts rights pairs left right) (right_fits kind rights pairs right)
 
-pub joins_fit : (gives : joined.Row → joined.Row → Meaning Bool) (kind : JoinKind) (columns cs ds : List (Named SqlType)) (lefts rights rows : List joined.Row) → columns ≡ cs ++ ds →
-    Joins gives kind (length cs) (length ds) lefts rights (Ok rows) → list_all (fits_row cs) lefts ≡ true → list_all (fits_row ds) rights ≡ true → list_all (fits_row columns) rows ≡ true
-joins_fit gives kind columns cs ds lefts rights rows are j left right =
-    ap (λ z. list_all (fits_row z) rows) are ∙ ap (list_all (fits_row (cs ++ ds))) j.2 ∙ joined_fits cs ds kind lefts rights j.0 left right
+-- the rows that a join answers fit its columns
+pub joins_fit : (gives : joined.Row → joined.Row → Meaning Bool) (kind : JoinKind) (columns cs ds : List (Named SqlType)) (left_width right_width : ℕ) (lefts rights ls rs rows : List joined.Row) → columns ≡ cs ++ ds →
+    left_width ≡ length cs → right_width ≡ length ds → ls ≡ lefts → rs ≡ rights → Joins gives kind left_width right_width ls rs (Ok rows) →
+    list_all (fits_row cs) lefts ≡ true → list_all (fits_row ds) rights ≡ true → list_all (fits_row columns) rows ≡ true
+joins_fit gives kind columns cs ds left_width right_width lefts rights ls rs rows are left_is right_is lefts_are rights_are j left right =
+    let rows_are : rows ≡ joined.joined kind (length cs) (length ds) lefts rights j.0 =
+      j.2 ∙ ap (λ (n : ℕ). joined.joined kind n right_width ls rs j.0) left_is ∙ ap (λ (n : ℕ). joined.joined kind (length cs) n ls rs j.0) right_is
+      ∙ ap (λ (z : List joined.Row). joined.joined kind (length cs) (length ds) z rs j.0) lefts_are ∙ ap (λ (z : List joined.Row). joined.joined kind (length cs) (length ds) lefts z j.0) rights_are in
+    ap (λ (z : List (Named SqlType)). list_all (fits_row z) rows) are ∙ ap (list_all (fits_row (cs ++ ds))) rows_are ∙ joined_fits cs ds kind lefts rights j.0 left right

@@ -133,7 +133,7 @@ length-either_each (one ∷ had) (keep ∷ kept) = ap suc (length-either_each ha
 module _ (gives : Row → Row → Meaning Bool) (kind : JoinKind) (right_width : ℕ) (rights : List Row) where
   from_left_push : (P : Row → List Bool → Type 0) (lefts : List Row) (pairs : Pairs) (left : Row) (kept : List Bool) → AllZip P lefts pairs →
       from_left kind right_width (lefts ++ left ∷ []) rights (pairs ++ kept ∷ []) ≡ from_left kind right_width lefts rights pairs ++ padded_right kind right_width left (met left rights kept)
-  from_left_push P [] [] left kept each = sym (append-nil (padded_right kind right_width left (met left rights kept)))
+  from_left_push P [] [] left kept each = append-nil (padded_right kind right_width left (met left rights kept))
   from_left_push P [] (other ∷ pairs) left kept each = absurd each
   from_left_push P (other ∷ lefts) [] left kept each = absurd each
   from_left_push P (other ∷ lefts) (these ∷ pairs) left kept each =
@@ -179,6 +179,20 @@ module _ (gives : Row → Row → Meaning Bool) (kind : JoinKind) (right_width :
             ∙ sym (from_left_push (λ left kept. Answered gives left rights (Ok kept)) (take i lefts) so.pairs left kept so.answered);
         had_are = ap (λ z. either_each z kept) so.had_are ∙ sym (noted_push (replicate (length rights) false) so.pairs kept);
       })
+
+  -- the same, by what each call of a turn ensures
+  pub joined_step : (lefts rows : List Row) (had : List Bool) (i : ℕ) (left asked matched padded : Row) (kept put noted_from : List Bool) (own more after : List Row) (after_had : List Bool) →
+      i < length lefts → left ≡ get_or lefts i left → asked ≡ left → matched ≡ left → padded ≡ left → put ≡ kept → noted_from ≡ kept →
+      own ≡ met matched rights put → more ≡ padded_right kind right_width padded own → after ≡ rows ++ more → after_had ≡ either_each had noted_from →
+      JoinedSo (take i lefts) rows had → Answered gives asked rights (Ok kept) → JoinedSo (take (i + 1) lefts) after after_had
+  joined_step lefts rows had i left asked matched padded kept put noted_from own more after after_had within is asked_is matched_is padded_is put_is noted_is own_are more_are after_are had_are so each =
+      let own_is : own ≡ met left rights kept = own_are ∙ ap (λ (z : Row). met z rights put) matched_is ∙ ap (met left rights) put_is in
+      let more_is : more ≡ padded_right kind right_width left (met left rights kept) = more_are ∙ ap (λ (z : Row). padded_right kind right_width z own) padded_is ∙ ap (padded_right kind right_width left) own_is in
+      let after_is : after ≡ rows ++ padded_right kind right_width left (met left rights kept) = after_are ∙ ap (λ (z : List Row). rows ++ z) more_is in
+      let had_is : after_had ≡ either_each had kept = had_are ∙ ap (either_each had) noted_is in
+      subst (λ (z : List Row). JoinedSo (take (i + 1) lefts) z after_had) (sym after_is)
+      (subst (λ (z : List Bool). JoinedSo (take (i + 1) lefts) (rows ++ padded_right kind right_width left (met left rights kept)) z) (sym had_is)
+        (joined_more lefts rows had i left kept within is so (subst (λ (z : Row). Answered gives z rights (Ok kept)) asked_is each)))
 
   pub all_joined : (left_width : ℕ) (lefts rows : List Row) (had : List Bool) (i : ℕ) → length lefts ≤ i → JoinedSo (take i lefts) rows had → Joins gives kind left_width right_width lefts rights (Ok (rows ++ from_unmet kind left_width rights had))
   all_joined left_width lefts rows had i past so =

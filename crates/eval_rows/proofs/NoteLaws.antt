@@ -1,7 +1,6 @@
 -- Which right rows have met a left row, noted place by place.
 use Rattle.std.proofs.Common.{◌≡◌, ℕ, zero, suc, ◌+◌, ◌<◌, ◌≤◌, Bool, true, false, ◌||◌, List, [], ◌∷◌, length, get_or, set, take, refl, ap, sym, ◌∙◌, add-one, arith}
-use Rattle.std.proofs.lemmas.List.{take_all}
-use Rattle.std.proofs.lemmas.Bool.{false≢true}
+use Rattle.std.proofs.lemmas.List.{get_or_default}
 use Rattle.eval_rows.specs.Met.{either_each}
 
 or_true : (b : Bool) → true ≡ (b || true)
@@ -12,7 +11,7 @@ or_false : (b : Bool) → b ≡ (b || false)
 or_false true = refl
 or_false false = refl
 
-by_none : (had : List Bool) → had ≡ either_each had []
+pub by_none : (had : List Bool) → had ≡ either_each had []
 by_none [] = refl
 by_none (one ∷ had) = refl
 
@@ -28,10 +27,10 @@ note_false (one ∷ had) [] i few some is = absurd (omega arith)
 note_false (one ∷ had) (keep ∷ kept) zero few some is = ap (λ b. b ∷ had) (or_false one ∙ ap (λ b. one || b) (sym is)) ∙ ap (λ z. (one || keep) ∷ z) (by_none had)
 note_false (one ∷ had) (keep ∷ kept) (suc i) few some is = ap (λ z. (one || keep) ∷ z) (note_false had kept i (omega arith) (omega arith) is)
 
-pub noted_true : (had kept : List Bool) (i : ℕ) (keep : Bool) → i < length had → i < length kept → keep ≡ get_or kept i keep → keep ≡ true → set (either_each had (take i kept)) i true ≡ either_each had (take (i + 1) kept)
-noted_true had kept i keep few some is yes =
-    note_true had kept i few some (ap (get_or kept i) (sym yes) ∙ sym is ∙ yes) ∙ ap (λ n. either_each had (take n kept)) (sym (add-one i))
+pub noted_true : (had kept : List Bool) (i : ℕ) (d : Bool) → i < length had → i < length kept → get_or kept i d ≡ true → set (either_each had (take i kept)) i true ≡ either_each had (take (i + 1) kept)
+noted_true had kept i d few some kept_here =
+    note_true had kept i few some (get_or_default kept i true d some ∙ kept_here) ∙ ap (λ n. either_each had (take n kept)) (sym (add-one i))
 
-pub noted_false : (had kept : List Bool) (i : ℕ) (keep : Bool) → i < length had → i < length kept → keep ≡ get_or kept i keep → keep ≡ false → either_each had (take i kept) ≡ either_each had (take (i + 1) kept)
-noted_false had kept i keep few some is no =
-    note_false had kept i few some (ap (get_or kept i) (sym no) ∙ sym is ∙ no) ∙ ap (λ n. either_each had (take n kept)) (sym (add-one i))
+pub noted_false : (had kept : List Bool) (i : ℕ) (d : Bool) → i < length had → i < length kept → get_or kept i d ≡ false → either_each had (take i kept) ≡ either_each had (take (i + 1) kept)
+noted_false had kept i d few some left_out =
+    note_false had kept i few some (get_or_default kept i false d some ∙ left_out) ∙ ap (λ n. either_each had (take n kept)) (sym (add-one i))

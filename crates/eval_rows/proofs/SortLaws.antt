@@ -1,5 +1,5 @@
 -- What a sort by all rows' order says of rows of one table.
-use Rattle.std.proofs.Common.{◌≡◌, Bool, true, List, reverse, refl, ap, sym, ◌∙◌, subst}
+use Rattle.std.proofs.Common.{◌≡◌, Bool, true, false, ◌&&◌, List, reverse, refl, ap, sym, ◌∙◌, subst}
 use Rattle.std.specs.List.{list_all, swap}
 use Rattle.std.specs.List.Sorted.{IsPermutation, IsSortedBy}
 use Rattle.std.specs.Ordering.{is_lt}
@@ -15,11 +15,16 @@ use Rattle.sql_types.proofs.ArrangedLaws.{permutes_from_std, arranged_from_sorte
 use Rattle.sql_types.proofs.TestParts.{first, second}
 use Rattle.eval_rows.proofs.FitLaws.{both}
 
+swap_pass : (a b c : Bool) → (a && (b && c)) ≡ true → (b && (a && c)) ≡ true
+swap_pass true b c all = all
+swap_pass false true c all = all
+swap_pass false false c all = all
+
 -- a permutation of elements that pass passes
 permuted_pass : {A : Type 0} (p : A → Bool) {xs ys : List A} → Permutes xs ys → list_all p xs ≡ true → list_all p ys ≡ true
 permuted_pass p permutes_none all = all
 permuted_pass p (permutes_skip more) all = both (first _ _ all) (permuted_pass p more (second _ _ all))
-permuted_pass p permutes_swap all = both (first _ _ (second _ _ all)) (both (first _ _ all) (second _ _ (second _ _ all)))
+permuted_pass p (permutes_swap {x = x} {y = y} {xs = xs}) all = swap_pass (p x) (p y) (list_all p xs) all
 permuted_pass p (permutes_then one more) all = permuted_pass p more (permuted_pass p one all)
 
 turned : {A : Type 0} (rows moved list : List A) → moved ≡ reverse rows → IsPermutation moved list → IsPermutation rows list

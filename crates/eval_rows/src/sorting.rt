@@ -10,7 +10,6 @@ use std::alloc::{AllocError, Global};
 
 /// The rows in an order by these items, each of which names a column of an orderable type. Rows that tie stand in any order.
 /// The rows are moved.
-#[tactic(auto, using(crate::proofs::SortLaws::sorted_fits, crate::proofs::SortLaws::sorted_arranged))]
 pub fn sort_rows(alloc: Global, rows: Rows, items: &SortItems) -> Result<Rows, AllocError>
     requires { orders_columns rows.columns items.now ≡ true }
     ensures columns { IfOk result (λ sorted. sorted.columns ≡ rows.columns) }

@@ -1,8 +1,7 @@
 //! Each call on its corners. A number that isn't there is NULL.
-ghost use Rattle.std.specs.Prelude.{◌≡◌, [], ◌∷◌, true};
+ghost use Rattle.std.specs.Prelude.{◌≡◌, true};
 ghost use Rattle.sql_types.specs.declared.sql_type.SqlType.TheVariants as types;
 ghost use Rattle.sql_types.specs.Fits.{fits};
-ghost use Rattle.sql_types.specs.Takes.{fits_types, fits_types_or_less};
 
 use crate::*;
 use sql_types::FaultKind::{Argument, DivisionByZero, Index, OutOfRange, User};
@@ -313,6 +312,69 @@ fn of_int(call: OfInt, number: Value) -> Result<Value, FaultKind>
     }
 }
 
+/// The calls on BOOL.
+#[derive(Clone, Copy, Debug)]
+enum Logic {
+    Not,
+    And,
+    Or,
+    IsTrue,
+    IsFalse,
+}
+
+/// One or two truth values and the answer.
+const LOGIC: [(Logic, Option<bool>, Option<bool>, Option<bool>); 25] = [
+    (Logic::Not, Some(true), None, Some(false)),
+    (Logic::Not, Some(false), None, Some(true)),
+    (Logic::Not, None, None, None),
+    (Logic::And, Some(true), Some(true), Some(true)),
+    (Logic::And, Some(true), Some(false), Some(false)),
+    (Logic::And, None, Some(false), Some(false)),
+    (Logic::And, Some(false), None, Some(false)),
+    (Logic::And, None, Some(true), None),
+    (Logic::And, Some(true), None, None),
+    (Logic::And, None, None, None),
+    (Logic::Or, Some(false), Some(false), Some(false)),
+    (Logic::Or, Some(false), Some(true), Some(true)),
+    (Logic::Or, None, Some(true), Some(true)),
+    (Logic::Or, Some(true), None, Some(true)),
+    (Logic::Or, None, Some(false), None),
+    (Logic::Or, Some(false), None, None),
+    (Logic::Or, None, None, None),
+    (Logic::IsTrue, Some(true), None, Some(true)),
+    (Logic::IsTrue, Some(false), None, Some(false)),
+    (Logic::IsTrue, None, None, Some(false)),
+    (Logic::IsFalse, Some(true), None, Some(false)),
+    (Logic::IsFalse, Some(false), None, Some(true)),
+    (Logic::IsFalse, None, None, Some(false)),
+    (Logic::And, Some(false), Some(false), Some(false)),
+    (Logic::Or, Some(true), Some(true), Some(true)),
+];
+
+#[test]
+fn truth_values(rt: HostRuntime) {
+    for (call, left, right, want) in LOGIC {
+        assert!(rt; same(&of_truths(call, truth(left), truth(right)), &truth(want)), "{call:?} {left:?} {right:?}");
+    }
+}
+
+fn of_truths(call: Logic, left: Value, right: Value) -> Value {
+    match call {
+        Logic::Not => not_bool(&[left]),
+        Logic::And => and_bool_bool(&[left, right]),
+        Logic::Or => or_bool_bool(&[left, right]),
+        Logic::IsTrue => is_true_bool(&[left]),
+        Logic::IsFalse => is_false_bool(&[left]),
+    }
+}
+
+fn truth(truth: Option<bool>) -> Value {
+    match truth {
+        Some(truth) => Value::Bool(truth),
+        None => Value::Null,
+    }
+}
+
 /// A value as a constant, or no argument.
 #[derive(Clone, Copy, Debug)]
 enum Given {
@@ -342,19 +404,15 @@ enum Plain {
     Gt,
     Ge,
     Between,
-    Not,
-    And,
-    Or,
     IsNull,
-    IsTrue,
-    IsFalse,
     IsError,
     Error,
     ArrayLength,
     ArrayIncludes,
 }
 
-const PLAIN: [(Plain, Given, Given, Given, Result<Given, FaultKind>); 98] = [
+/// Equality, three-valued but for IS DISTINCT FROM.
+const EQUAL: [(Plain, Given, Given, Given, Result<Given, FaultKind>); 23] = [
     (Plain::Eq, Int(1), Int(1), Nothing, Ok(Bool(true))),
     (Plain::Eq, Uint(1), Uint(u64::MAX), Nothing, Ok(Bool(false))),
     (Plain::Eq, Null, Null, Nothing, Ok(Null)),
@@ -375,6 +433,22 @@ const PLAIN: [(Plain, Given, Given, Given, Result<Given, FaultKind>); 98] = [
     (Plain::Distinct, Int(1), Int(1), Nothing, Ok(Bool(false))),
     (Plain::Distinct, Pair(Some(1), None), Pair(Some(1), None), Nothing, Ok(Bool(false))),
     (Plain::Distinct, Pair(Some(1), None), Pair(Some(1), Some(1)), Nothing, Ok(Bool(true))),
+    (Plain::Eq, Int(i64::MIN), Int(i64::MIN), Nothing, Ok(Bool(true))),
+    (Plain::Ne, Null, Null, Nothing, Ok(Null)),
+    (Plain::Ne, Pair(Some(1), None), Pair(Some(1), None), Nothing, Ok(Null)),
+    (Plain::Distinct, Null, Int(1), Nothing, Ok(Bool(true))),
+];
+
+#[test]
+fn equality(rt: HostRuntime) -> Result<(), Fail> {
+    for (call, first, second, third, want) in EQUAL {
+        assert!(rt; answers_as(rt.alloc(), call, first, second, third, want)?, "{call:?} {first:?} {second:?}");
+    }
+    Ok(())
+}
+
+/// Order, and BETWEEN.
+const ORDERED: [(Plain, Given, Given, Given, Result<Given, FaultKind>); 34] = [
     (Plain::Lt, Int(-1), Int(0), Nothing, Ok(Bool(true))),
     (Plain::Lt, Int(0), Int(0), Nothing, Ok(Bool(false))),
     (Plain::Lt, Uint(1), Uint(u64::MAX), Nothing, Ok(Bool(true))),
@@ -401,33 +475,32 @@ const PLAIN: [(Plain, Given, Given, Given, Result<Given, FaultKind>); 98] = [
     (Plain::Between, Int(5), Int(9), Null, Ok(Bool(false))),
     (Plain::Between, Int(5), Null, Int(9), Ok(Null)),
     (Plain::Between, Null, Int(1), Int(9), Ok(Null)),
-    (Plain::Not, Bool(true), Nothing, Nothing, Ok(Bool(false))),
-    (Plain::Not, Bool(false), Nothing, Nothing, Ok(Bool(true))),
-    (Plain::Not, Null, Nothing, Nothing, Ok(Null)),
-    (Plain::And, Bool(true), Bool(true), Nothing, Ok(Bool(true))),
-    (Plain::And, Bool(true), Bool(false), Nothing, Ok(Bool(false))),
-    (Plain::And, Null, Bool(false), Nothing, Ok(Bool(false))),
-    (Plain::And, Bool(false), Null, Nothing, Ok(Bool(false))),
-    (Plain::And, Null, Bool(true), Nothing, Ok(Null)),
-    (Plain::And, Bool(true), Null, Nothing, Ok(Null)),
-    (Plain::And, Null, Null, Nothing, Ok(Null)),
-    (Plain::Or, Bool(false), Bool(false), Nothing, Ok(Bool(false))),
-    (Plain::Or, Bool(false), Bool(true), Nothing, Ok(Bool(true))),
-    (Plain::Or, Null, Bool(true), Nothing, Ok(Bool(true))),
-    (Plain::Or, Bool(true), Null, Nothing, Ok(Bool(true))),
-    (Plain::Or, Null, Bool(false), Nothing, Ok(Null)),
-    (Plain::Or, Bool(false), Null, Nothing, Ok(Null)),
-    (Plain::Or, Null, Null, Nothing, Ok(Null)),
+    (Plain::Lt, Int(i64::MIN), Int(i64::MAX), Nothing, Ok(Bool(true))),
+    (Plain::Le, Given::Text("ab"), Given::Text("b"), Nothing, Ok(Bool(true))),
+    (Plain::Gt, Given::Text("b"), Given::Text("ab"), Nothing, Ok(Bool(true))),
+    (Plain::Ge, Bool(true), Bool(false), Nothing, Ok(Bool(true))),
+    (Plain::Gt, Uint(u64::MAX), Uint(1 << 63), Nothing, Ok(Bool(true))),
+    (Plain::Lt, Null, Null, Nothing, Ok(Null)),
+    (Plain::Le, Null, Int(0), Nothing, Ok(Null)),
+    (Plain::Ge, Null, Int(0), Nothing, Ok(Null)),
+    (Plain::Gt, Int(0), Null, Nothing, Ok(Null)),
+    (Plain::Between, Given::Text("b"), Given::Text("a"), Given::Text("c"), Ok(Bool(true))),
+];
+
+#[test]
+fn orders(rt: HostRuntime) -> Result<(), Fail> {
+    for (call, first, second, third, want) in ORDERED {
+        assert!(rt; answers_as(rt.alloc(), call, first, second, third, want)?, "{call:?} {first:?} {second:?}");
+    }
+    Ok(())
+}
+
+/// Tests of one value, lengths, and ERROR.
+const TESTED: [(Plain, Given, Given, Given, Result<Given, FaultKind>); 16] = [
     (Plain::IsNull, Null, Nothing, Nothing, Ok(Bool(true))),
     (Plain::IsNull, Int(0), Nothing, Nothing, Ok(Bool(false))),
     (Plain::IsNull, Array(&[]), Nothing, Nothing, Ok(Bool(false))),
     (Plain::IsNull, Pair(None, None), Nothing, Nothing, Ok(Bool(false))),
-    (Plain::IsTrue, Bool(true), Nothing, Nothing, Ok(Bool(true))),
-    (Plain::IsTrue, Bool(false), Nothing, Nothing, Ok(Bool(false))),
-    (Plain::IsTrue, Null, Nothing, Nothing, Ok(Bool(false))),
-    (Plain::IsFalse, Bool(true), Nothing, Nothing, Ok(Bool(false))),
-    (Plain::IsFalse, Bool(false), Nothing, Nothing, Ok(Bool(true))),
-    (Plain::IsFalse, Null, Nothing, Nothing, Ok(Bool(false))),
     (Plain::IsError, Int(1), Nothing, Nothing, Ok(Bool(false))),
     (Plain::IsError, Null, Nothing, Nothing, Ok(Bool(false))),
     (Plain::Error, Given::Text("x"), Nothing, Nothing, Err(User)),
@@ -441,32 +514,27 @@ const PLAIN: [(Plain, Given, Given, Given, Result<Given, FaultKind>); 98] = [
     (Plain::ArrayIncludes, Array(&[]), Int(2), Nothing, Ok(Bool(false))),
     (Plain::ArrayIncludes, Array(&[None]), Null, Nothing, Ok(Null)),
     (Plain::ArrayIncludes, Null, Int(2), Nothing, Ok(Null)),
-    (Plain::Eq, Int(i64::MIN), Int(i64::MIN), Nothing, Ok(Bool(true))),
-    (Plain::Lt, Int(i64::MIN), Int(i64::MAX), Nothing, Ok(Bool(true))),
-    (Plain::Le, Given::Text("ab"), Given::Text("b"), Nothing, Ok(Bool(true))),
-    (Plain::Gt, Given::Text("b"), Given::Text("ab"), Nothing, Ok(Bool(true))),
-    (Plain::Ge, Bool(true), Bool(false), Nothing, Ok(Bool(true))),
-    (Plain::Gt, Uint(u64::MAX), Uint(1 << 63), Nothing, Ok(Bool(true))),
-    (Plain::Lt, Null, Null, Nothing, Ok(Null)),
-    (Plain::Le, Null, Int(0), Nothing, Ok(Null)),
-    (Plain::Ge, Null, Int(0), Nothing, Ok(Null)),
-    (Plain::Gt, Int(0), Null, Nothing, Ok(Null)),
-    (Plain::Ne, Null, Null, Nothing, Ok(Null)),
-    (Plain::Ne, Pair(Some(1), None), Pair(Some(1), None), Nothing, Ok(Null)),
-    (Plain::Between, Given::Text("b"), Given::Text("a"), Given::Text("c"), Ok(Bool(true))),
-    (Plain::And, Bool(false), Bool(false), Nothing, Ok(Bool(false))),
-    (Plain::Or, Bool(true), Bool(true), Nothing, Ok(Bool(true))),
-    (Plain::Distinct, Null, Int(1), Nothing, Ok(Bool(true))),
 ];
 
 #[test]
-fn plain_calls(rt: HostRuntime) -> Result<(), Fail> {
-    for (call, first, second, third, want) in PLAIN {
-        let values = arguments(rt.alloc(), first, second, third)?;
-        let want = answer(rt.alloc(), want)?;
-        assert!(rt; agree(answer_of_plain(call, values.as_slice()), want), "{call:?} {first:?} {second:?}");
+fn tested(rt: HostRuntime) -> Result<(), Fail> {
+    for (call, first, second, third, want) in TESTED {
+        assert!(rt; answers_as(rt.alloc(), call, first, second, third, want)?, "{call:?} {first:?} {second:?}");
     }
     Ok(())
+}
+
+fn answers_as(
+    alloc: Global,
+    call: Plain,
+    first: Given,
+    second: Given,
+    third: Given,
+    want: Result<Given, FaultKind>,
+) -> Result<bool, AllocError> {
+    let values = arguments(alloc, first, second, third)?;
+    let want = answer(alloc, want)?;
+    Ok(agree(answer_of_plain(call, values.as_slice()), want))
 }
 
 fn answer_of_plain(call: Plain, values: &[Value]) -> Result<Value, FaultKind> {
@@ -479,12 +547,7 @@ fn answer_of_plain(call: Plain, values: &[Value]) -> Result<Value, FaultKind> {
         Plain::Gt => Ok(gt_any_any(values)),
         Plain::Ge => Ok(ge_any_any(values)),
         Plain::Between => Ok(between_any_any_any(values)),
-        Plain::Not => Ok(not_bool(values)),
-        Plain::And => Ok(and_bool_bool(values)),
-        Plain::Or => Ok(or_bool_bool(values)),
         Plain::IsNull => Ok(is_null_any(values)),
-        Plain::IsTrue => Ok(is_true_bool(values)),
-        Plain::IsFalse => Ok(is_false_bool(values)),
         Plain::IsError => Ok(iserror_any(values)),
         Plain::Error => error_string(values),
         Plain::ArrayLength => array_length_array(values),
@@ -644,9 +707,16 @@ fn int(number: Option<i64>) -> Value
     ensures { fits types.Int64 result ≡ true }
 {
     match number {
-        Some(number) => Value::Int(number),
-        None => Value::Null,
+        Some(number) => some_int(number),
+        None => null_value(),
     }
+}
+
+#[tactic(auto, using(crate::proofs::FitLaws::int_fits))]
+fn some_int(number: i64) -> Value
+    ensures { fits types.Int64 result ≡ true }
+{
+    Value::Int(number)
 }
 
 /// A UINT64.
@@ -654,9 +724,25 @@ fn uint(number: Option<u64>) -> Value
     ensures { fits types.Uint64 result ≡ true }
 {
     match number {
-        Some(number) => Value::Uint(number),
-        None => Value::Null,
+        Some(number) => some_uint(number),
+        None => null_value(),
     }
+}
+
+#[tactic(auto, using(crate::proofs::FitLaws::uint_fits))]
+fn some_uint(number: u64) -> Value
+    ensures { fits types.Uint64 result ≡ true }
+{
+    Value::Uint(number)
+}
+
+/// NULL fits both types.
+#[tactic(auto, using(crate::proofs::FitLaws::null_fits))]
+fn null_value() -> Value
+    ensures int { fits types.Int64 result ≡ true }
+    ensures uint { fits types.Uint64 result ≡ true }
+{
+    Value::Null
 }
 
 fn arguments(alloc: Global, first: Given, second: Given, third: Given) -> Result<Values, AllocError> {
