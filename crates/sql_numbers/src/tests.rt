@@ -10,6 +10,7 @@ use std::alloc::{AllocError, Global};
 use std::test::Fail;
 
 const LEAST: Option<i64> = Some(i64::MIN);
+
 const GREATEST: Option<i64> = Some(i64::MAX);
 
 /// The calls that take two INT64.
@@ -30,7 +31,12 @@ enum OfInts {
     SafeMultiply,
 }
 
-const INTS: [(OfInts, Option<i64>, Option<i64>, Result<Option<i64>, FaultKind>); 64] = [
+const INTS: [(
+    OfInts,
+    Option<i64>,
+    Option<i64>,
+    Result<Option<i64>, FaultKind>,
+); 64] = [
     (OfInts::Add, Some(2), Some(3), Ok(Some(5))),
     (OfInts::Add, GREATEST, Some(0), Ok(GREATEST)),
     (OfInts::Add, GREATEST, Some(1), Err(OutOfRange)),
@@ -151,26 +157,51 @@ enum OfUints {
     SafeMultiply,
 }
 
-const UINTS: [(OfUints, Option<u64>, Option<u64>, Result<Option<u64>, FaultKind>); 27] = [
-    (OfUints::Add, Some(u64::MAX - 1), Some(1), Ok(Some(u64::MAX))),
+const UINTS: [(
+    OfUints,
+    Option<u64>,
+    Option<u64>,
+    Result<Option<u64>, FaultKind>,
+); 27] = [
+    (
+        OfUints::Add,
+        Some(u64::MAX - 1),
+        Some(1),
+        Ok(Some(u64::MAX)),
+    ),
     (OfUints::Add, Some(u64::MAX), Some(1), Err(OutOfRange)),
     (OfUints::Add, None, Some(1), Ok(None)),
     (OfUints::Mul, Some(u64::MAX), Some(1), Ok(Some(u64::MAX))),
     (OfUints::Mul, Some(1 << 32), Some(1 << 32), Err(OutOfRange)),
     (OfUints::Mul, Some(0), None, Ok(None)),
-    (OfUints::Div, Some(u64::MAX), Some(2), Ok(Some(9_223_372_036_854_775_807))),
+    (
+        OfUints::Div,
+        Some(u64::MAX),
+        Some(2),
+        Ok(Some(9_223_372_036_854_775_807)),
+    ),
     (OfUints::Div, Some(0), Some(0), Err(DivisionByZero)),
     (OfUints::Div, None, Some(0), Ok(None)),
     (OfUints::Mod, Some(u64::MAX), Some(10), Ok(Some(5))),
     (OfUints::Mod, Some(1), Some(0), Err(DivisionByZero)),
     (OfUints::Mod, Some(1), None, Ok(None)),
-    (OfUints::BitAnd, Some(u64::MAX), Some(1 << 63), Ok(Some(1 << 63))),
+    (
+        OfUints::BitAnd,
+        Some(u64::MAX),
+        Some(1 << 63),
+        Ok(Some(1 << 63)),
+    ),
     (OfUints::BitAnd, Some(12), Some(10), Ok(Some(8))),
     (OfUints::BitAnd, None, Some(0), Ok(None)),
     (OfUints::BitXor, Some(u64::MAX), Some(u64::MAX), Ok(Some(0))),
     (OfUints::BitXor, Some(12), Some(10), Ok(Some(6))),
     (OfUints::BitXor, Some(0), None, Ok(None)),
-    (OfUints::BitOr, Some(1 << 63), Some((1 << 63) - 1), Ok(Some(u64::MAX))),
+    (
+        OfUints::BitOr,
+        Some(1 << 63),
+        Some((1 << 63) - 1),
+        Ok(Some(u64::MAX)),
+    ),
     (OfUints::BitOr, Some(12), Some(10), Ok(Some(14))),
     (OfUints::BitOr, None, Some(u64::MAX), Ok(None)),
     (OfUints::SafeAdd, Some(2), Some(3), Ok(Some(5))),
@@ -185,7 +216,10 @@ const UINTS: [(OfUints, Option<u64>, Option<u64>, Result<Option<u64>, FaultKind>
 fn two_uints(rt: HostRuntime) {
     for (call, left, right, want) in UINTS {
         let got = of_uints(call, uint(left), uint(right));
-        assert!(rt; agree(got, uint_answer(want)), "{call:?} {left:?} {right:?}");
+        assert!(rt;
+            agree(got, uint_answer(want)),
+            "{call:?} {left:?} {right:?}"
+        );
     }
 }
 
@@ -230,14 +264,25 @@ fn differences_of_uints(rt: HostRuntime) {
         let got = sub_uint64_uint64(&[uint(left), uint(right)]);
         assert!(rt; agree(got, int_answer(want)), "{left:?} {right:?}");
         let got = safe_subtract_uint64_uint64(&[uint(left), uint(right)]);
-        assert!(rt; same(&got, &int(want.unwrap_or(None))), "{left:?} {right:?}");
+        assert!(rt;
+            same(&got, &int(want.unwrap_or(None))),
+            "{left:?} {right:?}"
+        );
     }
 }
 
 /// A UINT64, places, and the number so many places to the left and to the right.
-const SHIFTS: [(Option<u64>, Option<i64>, Result<(Option<u64>, Option<u64>), FaultKind>); 7] = [
+const SHIFTS: [(
+    Option<u64>,
+    Option<i64>,
+    Result<(Option<u64>, Option<u64>), FaultKind>,
+); 7] = [
     (Some(3), Some(0), Ok((Some(3), Some(3)))),
-    (Some(u64::MAX), Some(1), Ok((Some(u64::MAX - 1), Some((1 << 63) - 1)))),
+    (
+        Some(u64::MAX),
+        Some(1),
+        Ok((Some(u64::MAX - 1), Some((1 << 63) - 1))),
+    ),
     (Some(3), Some(63), Ok((Some(1 << 63), Some(0)))),
     (Some(u64::MAX), Some(64), Ok((Some(0), Some(0)))),
     (Some(1), GREATEST, Ok((Some(0), Some(0)))),
@@ -291,9 +336,16 @@ const INT: [(OfInt, Option<i64>, Result<Option<i64>, FaultKind>); 16] = [
 #[test]
 fn one_int(rt: HostRuntime) {
     for (call, number, want) in INT {
-        assert!(rt; agree(of_int(call, int(number)), int_answer(want)), "{call:?} {number:?}");
+        assert!(rt;
+            agree(of_int(call, int(number)), int_answer(want)),
+            "{call:?} {number:?}"
+        );
     }
-    for (number, flipped) in [(Some(0), Some(u64::MAX)), (Some(u64::MAX), Some(0)), (None, None)] {
+    for (number, flipped) in [
+        (Some(0), Some(u64::MAX)),
+        (Some(u64::MAX), Some(0)),
+        (None, None),
+    ] {
         assert!(rt; same(&flip_uint64(&[uint(number)]), &uint(flipped)));
         assert!(rt; same(&pos_uint64(&[uint(number)]), &uint(number)));
     }
@@ -354,7 +406,10 @@ const LOGIC: [(Logic, Option<bool>, Option<bool>, Option<bool>); 25] = [
 #[test]
 fn truth_values(rt: HostRuntime) {
     for (call, left, right, want) in LOGIC {
-        assert!(rt; same(&of_truths(call, truth(left), truth(right)), &truth(want)), "{call:?} {left:?} {right:?}");
+        assert!(rt;
+            same(&of_truths(call, truth(left), truth(right)), &truth(want)),
+            "{call:?} {left:?} {right:?}"
+        );
     }
 }
 
@@ -417,32 +472,89 @@ const EQUAL: [(Plain, Given, Given, Given, Result<Given, FaultKind>); 23] = [
     (Plain::Eq, Uint(1), Uint(u64::MAX), Nothing, Ok(Bool(false))),
     (Plain::Eq, Null, Null, Nothing, Ok(Null)),
     (Plain::Eq, Int(1), Null, Nothing, Ok(Null)),
-    (Plain::Eq, Given::Text("a"), Given::Text("A"), Nothing, Ok(Bool(false))),
+    (
+        Plain::Eq,
+        Given::Text("a"),
+        Given::Text("A"),
+        Nothing,
+        Ok(Bool(false)),
+    ),
     (Plain::Eq, Date(0), Date(0), Nothing, Ok(Bool(true))),
     (Plain::Eq, Bool(false), Bool(false), Nothing, Ok(Bool(true))),
     // a STRUCT by AND over its fields
-    (Plain::Eq, Pair(Some(1), None), Pair(Some(2), Some(2)), Nothing, Ok(Bool(false))),
-    (Plain::Eq, Pair(Some(1), None), Pair(Some(1), Some(2)), Nothing, Ok(Null)),
-    (Plain::Eq, Pair(Some(1), Some(2)), Pair(Some(1), Some(2)), Nothing, Ok(Bool(true))),
+    (
+        Plain::Eq,
+        Pair(Some(1), None),
+        Pair(Some(2), Some(2)),
+        Nothing,
+        Ok(Bool(false)),
+    ),
+    (
+        Plain::Eq,
+        Pair(Some(1), None),
+        Pair(Some(1), Some(2)),
+        Nothing,
+        Ok(Null),
+    ),
+    (
+        Plain::Eq,
+        Pair(Some(1), Some(2)),
+        Pair(Some(1), Some(2)),
+        Nothing,
+        Ok(Bool(true)),
+    ),
     (Plain::Ne, Int(1), Int(1), Nothing, Ok(Bool(false))),
     (Plain::Ne, Int(1), Int(2), Nothing, Ok(Bool(true))),
     (Plain::Ne, Int(1), Null, Nothing, Ok(Null)),
-    (Plain::Ne, Pair(Some(1), None), Pair(Some(2), None), Nothing, Ok(Bool(true))),
+    (
+        Plain::Ne,
+        Pair(Some(1), None),
+        Pair(Some(2), None),
+        Nothing,
+        Ok(Bool(true)),
+    ),
     (Plain::Distinct, Null, Null, Nothing, Ok(Bool(false))),
     (Plain::Distinct, Int(1), Null, Nothing, Ok(Bool(true))),
     (Plain::Distinct, Int(1), Int(1), Nothing, Ok(Bool(false))),
-    (Plain::Distinct, Pair(Some(1), None), Pair(Some(1), None), Nothing, Ok(Bool(false))),
-    (Plain::Distinct, Pair(Some(1), None), Pair(Some(1), Some(1)), Nothing, Ok(Bool(true))),
-    (Plain::Eq, Int(i64::MIN), Int(i64::MIN), Nothing, Ok(Bool(true))),
+    (
+        Plain::Distinct,
+        Pair(Some(1), None),
+        Pair(Some(1), None),
+        Nothing,
+        Ok(Bool(false)),
+    ),
+    (
+        Plain::Distinct,
+        Pair(Some(1), None),
+        Pair(Some(1), Some(1)),
+        Nothing,
+        Ok(Bool(true)),
+    ),
+    (
+        Plain::Eq,
+        Int(i64::MIN),
+        Int(i64::MIN),
+        Nothing,
+        Ok(Bool(true)),
+    ),
     (Plain::Ne, Null, Null, Nothing, Ok(Null)),
-    (Plain::Ne, Pair(Some(1), None), Pair(Some(1), None), Nothing, Ok(Null)),
+    (
+        Plain::Ne,
+        Pair(Some(1), None),
+        Pair(Some(1), None),
+        Nothing,
+        Ok(Null),
+    ),
     (Plain::Distinct, Null, Int(1), Nothing, Ok(Bool(true))),
 ];
 
 #[test]
 fn equality(rt: HostRuntime) -> Result<(), Fail> {
     for (call, first, second, third, want) in EQUAL {
-        assert!(rt; answers_as(rt.alloc(), call, first, second, third, want)?, "{call:?} {first:?} {second:?}");
+        assert!(rt;
+            answers_as(rt.alloc(), call, first, second, third, want)?,
+            "{call:?} {first:?} {second:?}"
+        );
     }
     Ok(())
 }
@@ -455,8 +567,20 @@ const ORDERED: [(Plain, Given, Given, Given, Result<Given, FaultKind>); 34] = [
     (Plain::Lt, Bool(false), Bool(true), Nothing, Ok(Bool(true))),
     (Plain::Lt, Date(-1), Date(0), Nothing, Ok(Bool(true))),
     // by bytes
-    (Plain::Lt, Given::Text("\u{ffff}"), Given::Text("\u{1f600}"), Nothing, Ok(Bool(true))),
-    (Plain::Lt, Given::Text(""), Given::Text("a"), Nothing, Ok(Bool(true))),
+    (
+        Plain::Lt,
+        Given::Text("\u{ffff}"),
+        Given::Text("\u{1f600}"),
+        Nothing,
+        Ok(Bool(true)),
+    ),
+    (
+        Plain::Lt,
+        Given::Text(""),
+        Given::Text("a"),
+        Nothing,
+        Ok(Bool(true)),
+    ),
     (Plain::Lt, Null, Int(0), Nothing, Ok(Null)),
     (Plain::Le, Int(0), Int(0), Nothing, Ok(Bool(true))),
     (Plain::Le, Int(1), Int(0), Nothing, Ok(Bool(false))),
@@ -465,7 +589,13 @@ const ORDERED: [(Plain, Given, Given, Given, Result<Given, FaultKind>); 34] = [
     (Plain::Gt, Int(0), Int(0), Nothing, Ok(Bool(false))),
     (Plain::Gt, Null, Null, Nothing, Ok(Null)),
     (Plain::Ge, Int(0), Int(0), Nothing, Ok(Bool(true))),
-    (Plain::Ge, Given::Text("a"), Given::Text("b"), Nothing, Ok(Bool(false))),
+    (
+        Plain::Ge,
+        Given::Text("a"),
+        Given::Text("b"),
+        Nothing,
+        Ok(Bool(false)),
+    ),
     (Plain::Ge, Int(0), Null, Nothing, Ok(Null)),
     (Plain::Between, Int(5), Int(5), Int(5), Ok(Bool(true))),
     (Plain::Between, Int(5), Int(1), Int(4), Ok(Bool(false))),
@@ -475,22 +605,55 @@ const ORDERED: [(Plain, Given, Given, Given, Result<Given, FaultKind>); 34] = [
     (Plain::Between, Int(5), Int(9), Null, Ok(Bool(false))),
     (Plain::Between, Int(5), Null, Int(9), Ok(Null)),
     (Plain::Between, Null, Int(1), Int(9), Ok(Null)),
-    (Plain::Lt, Int(i64::MIN), Int(i64::MAX), Nothing, Ok(Bool(true))),
-    (Plain::Le, Given::Text("ab"), Given::Text("b"), Nothing, Ok(Bool(true))),
-    (Plain::Gt, Given::Text("b"), Given::Text("ab"), Nothing, Ok(Bool(true))),
+    (
+        Plain::Lt,
+        Int(i64::MIN),
+        Int(i64::MAX),
+        Nothing,
+        Ok(Bool(true)),
+    ),
+    (
+        Plain::Le,
+        Given::Text("ab"),
+        Given::Text("b"),
+        Nothing,
+        Ok(Bool(true)),
+    ),
+    (
+        Plain::Gt,
+        Given::Text("b"),
+        Given::Text("ab"),
+        Nothing,
+        Ok(Bool(true)),
+    ),
     (Plain::Ge, Bool(true), Bool(false), Nothing, Ok(Bool(true))),
-    (Plain::Gt, Uint(u64::MAX), Uint(1 << 63), Nothing, Ok(Bool(true))),
+    (
+        Plain::Gt,
+        Uint(u64::MAX),
+        Uint(1 << 63),
+        Nothing,
+        Ok(Bool(true)),
+    ),
     (Plain::Lt, Null, Null, Nothing, Ok(Null)),
     (Plain::Le, Null, Int(0), Nothing, Ok(Null)),
     (Plain::Ge, Null, Int(0), Nothing, Ok(Null)),
     (Plain::Gt, Int(0), Null, Nothing, Ok(Null)),
-    (Plain::Between, Given::Text("b"), Given::Text("a"), Given::Text("c"), Ok(Bool(true))),
+    (
+        Plain::Between,
+        Given::Text("b"),
+        Given::Text("a"),
+        Given::Text("c"),
+        Ok(Bool(true)),
+    ),
 ];
 
 #[test]
 fn orders(rt: HostRuntime) -> Result<(), Fail> {
     for (call, first, second, third, want) in ORDERED {
-        assert!(rt; answers_as(rt.alloc(), call, first, second, third, want)?, "{call:?} {first:?} {second:?}");
+        assert!(rt;
+            answers_as(rt.alloc(), call, first, second, third, want)?,
+            "{call:?} {first:?} {second:?}"
+        );
     }
     Ok(())
 }
@@ -500,26 +663,65 @@ const TESTED: [(Plain, Given, Given, Given, Result<Given, FaultKind>); 16] = [
     (Plain::IsNull, Null, Nothing, Nothing, Ok(Bool(true))),
     (Plain::IsNull, Int(0), Nothing, Nothing, Ok(Bool(false))),
     (Plain::IsNull, Array(&[]), Nothing, Nothing, Ok(Bool(false))),
-    (Plain::IsNull, Pair(None, None), Nothing, Nothing, Ok(Bool(false))),
+    (
+        Plain::IsNull,
+        Pair(None, None),
+        Nothing,
+        Nothing,
+        Ok(Bool(false)),
+    ),
     (Plain::IsError, Int(1), Nothing, Nothing, Ok(Bool(false))),
     (Plain::IsError, Null, Nothing, Nothing, Ok(Bool(false))),
     (Plain::Error, Given::Text("x"), Nothing, Nothing, Err(User)),
     (Plain::Error, Null, Nothing, Nothing, Err(User)),
     (Plain::ArrayLength, Array(&[]), Nothing, Nothing, Ok(Int(0))),
-    (Plain::ArrayLength, Array(&[Some(1), None]), Nothing, Nothing, Ok(Int(2))),
+    (
+        Plain::ArrayLength,
+        Array(&[Some(1), None]),
+        Nothing,
+        Nothing,
+        Ok(Int(2)),
+    ),
     (Plain::ArrayLength, Null, Nothing, Nothing, Ok(Null)),
-    (Plain::ArrayIncludes, Array(&[Some(1), None, Some(2)]), Int(2), Nothing, Ok(Bool(true))),
+    (
+        Plain::ArrayIncludes,
+        Array(&[Some(1), None, Some(2)]),
+        Int(2),
+        Nothing,
+        Ok(Bool(true)),
+    ),
     // FALSE, not NULL
-    (Plain::ArrayIncludes, Array(&[Some(1), None]), Int(2), Nothing, Ok(Bool(false))),
-    (Plain::ArrayIncludes, Array(&[]), Int(2), Nothing, Ok(Bool(false))),
-    (Plain::ArrayIncludes, Array(&[None]), Null, Nothing, Ok(Null)),
+    (
+        Plain::ArrayIncludes,
+        Array(&[Some(1), None]),
+        Int(2),
+        Nothing,
+        Ok(Bool(false)),
+    ),
+    (
+        Plain::ArrayIncludes,
+        Array(&[]),
+        Int(2),
+        Nothing,
+        Ok(Bool(false)),
+    ),
+    (
+        Plain::ArrayIncludes,
+        Array(&[None]),
+        Null,
+        Nothing,
+        Ok(Null),
+    ),
     (Plain::ArrayIncludes, Null, Int(2), Nothing, Ok(Null)),
 ];
 
 #[test]
 fn tested(rt: HostRuntime) -> Result<(), Fail> {
     for (call, first, second, third, want) in TESTED {
-        assert!(rt; answers_as(rt.alloc(), call, first, second, third, want)?, "{call:?} {first:?} {second:?}");
+        assert!(rt;
+            answers_as(rt.alloc(), call, first, second, third, want)?,
+            "{call:?} {first:?} {second:?}"
+        );
     }
     Ok(())
 }
@@ -581,42 +783,144 @@ const MADE: [(Made, Given, Given, Given, Result<Given, FaultKind>); 46] = [
     (Made::IfNull, Int(1), Int(2), Nothing, Ok(Int(1))),
     (Made::IfNull, Null, Int(2), Nothing, Ok(Int(2))),
     (Made::IfNull, Null, Null, Nothing, Ok(Null)),
-    (Made::Coalesce, Null, Null, Given::Text("c"), Ok(Given::Text("c"))),
-    (Made::Coalesce, Given::Text("a"), Null, Nothing, Ok(Given::Text("a"))),
+    (
+        Made::Coalesce,
+        Null,
+        Null,
+        Given::Text("c"),
+        Ok(Given::Text("c")),
+    ),
+    (
+        Made::Coalesce,
+        Given::Text("a"),
+        Null,
+        Nothing,
+        Ok(Given::Text("a")),
+    ),
     (Made::Coalesce, Null, Nothing, Nothing, Ok(Null)),
     (Made::NullIf, Int(1), Int(1), Nothing, Ok(Null)),
     (Made::NullIf, Int(1), Int(2), Nothing, Ok(Int(1))),
     (Made::NullIf, Int(1), Null, Nothing, Ok(Int(1))),
     (Made::NullIf, Null, Int(1), Nothing, Ok(Null)),
-    (Made::NullIf, Pair(Some(1), None), Pair(Some(1), None), Nothing, Ok(Pair(Some(1), None))),
+    (
+        Made::NullIf,
+        Pair(Some(1), None),
+        Pair(Some(1), None),
+        Nothing,
+        Ok(Pair(Some(1), None)),
+    ),
     (Made::IfError, Int(1), Int(2), Nothing, Ok(Int(1))),
     (Made::IfError, Null, Int(2), Nothing, Ok(Null)),
     (Made::NullIfError, Int(1), Nothing, Nothing, Ok(Int(1))),
     (Made::NullIfError, Null, Nothing, Nothing, Ok(Null)),
     (Made::Greatest, Int(2), Int(3), Int(1), Ok(Int(3))),
     (Made::Greatest, Int(2), Null, Int(1), Ok(Null)),
-    (Made::Greatest, Int(i64::MIN), Nothing, Nothing, Ok(Int(i64::MIN))),
-    (Made::Greatest, Given::Text("a"), Given::Text("b"), Nothing, Ok(Given::Text("b"))),
-    (Made::Greatest, Uint(u64::MAX), Uint(0), Nothing, Ok(Uint(u64::MAX))),
+    (
+        Made::Greatest,
+        Int(i64::MIN),
+        Nothing,
+        Nothing,
+        Ok(Int(i64::MIN)),
+    ),
+    (
+        Made::Greatest,
+        Given::Text("a"),
+        Given::Text("b"),
+        Nothing,
+        Ok(Given::Text("b")),
+    ),
+    (
+        Made::Greatest,
+        Uint(u64::MAX),
+        Uint(0),
+        Nothing,
+        Ok(Uint(u64::MAX)),
+    ),
     (Made::Least, Int(2), Int(3), Int(1), Ok(Int(1))),
     (Made::Least, Int(2), Int(3), Null, Ok(Null)),
     (Made::Least, Date(5), Date(-5), Nothing, Ok(Date(-5))),
-    (Made::Least, Bool(true), Bool(false), Nothing, Ok(Bool(false))),
-    (Made::Least, Given::Text("b"), Nothing, Nothing, Ok(Given::Text("b"))),
-    (Made::ArrayFirst, Array(&[Some(1), Some(2)]), Nothing, Nothing, Ok(Int(1))),
-    (Made::ArrayFirst, Array(&[None, Some(2)]), Nothing, Nothing, Ok(Null)),
+    (
+        Made::Least,
+        Bool(true),
+        Bool(false),
+        Nothing,
+        Ok(Bool(false)),
+    ),
+    (
+        Made::Least,
+        Given::Text("b"),
+        Nothing,
+        Nothing,
+        Ok(Given::Text("b")),
+    ),
+    (
+        Made::ArrayFirst,
+        Array(&[Some(1), Some(2)]),
+        Nothing,
+        Nothing,
+        Ok(Int(1)),
+    ),
+    (
+        Made::ArrayFirst,
+        Array(&[None, Some(2)]),
+        Nothing,
+        Nothing,
+        Ok(Null),
+    ),
     (Made::ArrayFirst, Array(&[]), Nothing, Nothing, Err(Index)),
     (Made::ArrayFirst, Null, Nothing, Nothing, Ok(Null)),
-    (Made::ArrayLast, Array(&[Some(1), Some(2)]), Nothing, Nothing, Ok(Int(2))),
+    (
+        Made::ArrayLast,
+        Array(&[Some(1), Some(2)]),
+        Nothing,
+        Nothing,
+        Ok(Int(2)),
+    ),
     (Made::ArrayLast, Array(&[]), Nothing, Nothing, Err(Index)),
     (Made::ArrayLast, Null, Nothing, Nothing, Ok(Null)),
-    (Made::ArrayReverse, Array(&[Some(1), None, Some(3)]), Nothing, Nothing, Ok(Array(&[Some(3), None, Some(1)]))),
-    (Made::ArrayReverse, Array(&[]), Nothing, Nothing, Ok(Array(&[]))),
+    (
+        Made::ArrayReverse,
+        Array(&[Some(1), None, Some(3)]),
+        Nothing,
+        Nothing,
+        Ok(Array(&[Some(3), None, Some(1)])),
+    ),
+    (
+        Made::ArrayReverse,
+        Array(&[]),
+        Nothing,
+        Nothing,
+        Ok(Array(&[])),
+    ),
     (Made::ArrayReverse, Null, Nothing, Nothing, Ok(Null)),
-    (Made::ArrayConcat, Array(&[Some(1)]), Array(&[]), Array(&[None, Some(2)]), Ok(Array(&[Some(1), None, Some(2)]))),
-    (Made::ArrayConcat, Array(&[Some(1)]), Nothing, Nothing, Ok(Array(&[Some(1)]))),
-    (Made::ArrayConcat, Array(&[Some(1)]), Null, Nothing, Ok(Null)),
-    (Made::Join, Array(&[Some(1)]), Array(&[Some(2), Some(3)]), Nothing, Ok(Array(&[Some(1), Some(2), Some(3)]))),
+    (
+        Made::ArrayConcat,
+        Array(&[Some(1)]),
+        Array(&[]),
+        Array(&[None, Some(2)]),
+        Ok(Array(&[Some(1), None, Some(2)])),
+    ),
+    (
+        Made::ArrayConcat,
+        Array(&[Some(1)]),
+        Nothing,
+        Nothing,
+        Ok(Array(&[Some(1)])),
+    ),
+    (
+        Made::ArrayConcat,
+        Array(&[Some(1)]),
+        Null,
+        Nothing,
+        Ok(Null),
+    ),
+    (
+        Made::Join,
+        Array(&[Some(1)]),
+        Array(&[Some(2), Some(3)]),
+        Nothing,
+        Ok(Array(&[Some(1), Some(2), Some(3)])),
+    ),
     (Made::Join, Array(&[]), Array(&[]), Nothing, Ok(Array(&[]))),
     (Made::Join, Null, Array(&[]), Nothing, Ok(Null)),
     (Made::Join, Array(&[]), Null, Nothing, Ok(Null)),
@@ -652,14 +956,39 @@ fn answer_of_made(alloc: Global, call: Made, values: &[Value]) -> Result<Value, 
 }
 
 /// The first and the last number, the step, and the array. A step of 1 is tried as one that isn't given, too.
-const GENERATED: [(Option<i64>, Option<i64>, Option<i64>, Result<Given, FaultKind>); 14] = [
-    (Some(1), Some(3), Some(1), Ok(Array(&[Some(1), Some(2), Some(3)]))),
+const GENERATED: [(
+    Option<i64>,
+    Option<i64>,
+    Option<i64>,
+    Result<Given, FaultKind>,
+); 14] = [
+    (
+        Some(1),
+        Some(3),
+        Some(1),
+        Ok(Array(&[Some(1), Some(2), Some(3)])),
+    ),
     (Some(2), Some(2), Some(1), Ok(Array(&[Some(2)]))),
     (Some(3), Some(1), Some(1), Ok(Array(&[]))),
-    (Some(1), Some(6), Some(2), Ok(Array(&[Some(1), Some(3), Some(5)]))),
-    (Some(5), Some(1), Some(-2), Ok(Array(&[Some(5), Some(3), Some(1)]))),
+    (
+        Some(1),
+        Some(6),
+        Some(2),
+        Ok(Array(&[Some(1), Some(3), Some(5)])),
+    ),
+    (
+        Some(5),
+        Some(1),
+        Some(-2),
+        Ok(Array(&[Some(5), Some(3), Some(1)])),
+    ),
     (Some(1), Some(5), Some(-2), Ok(Array(&[]))),
-    (LEAST, GREATEST, GREATEST, Ok(Array(&[LEAST, Some(-1), Some(i64::MAX - 1)]))),
+    (
+        LEAST,
+        GREATEST,
+        GREATEST,
+        Ok(Array(&[LEAST, Some(-1), Some(i64::MAX - 1)])),
+    ),
     (GREATEST, LEAST, LEAST, Ok(Array(&[GREATEST, Some(-1)]))),
     (Some(3), Some(1), Some(0), Err(Argument)),
     (Some(0), Some(1_048_576), Some(1), Err(OutOfRange)),
@@ -745,7 +1074,12 @@ fn null_value() -> Value
     Value::Null
 }
 
-fn arguments(alloc: Global, first: Given, second: Given, third: Given) -> Result<Values, AllocError> {
+fn arguments(
+    alloc: Global,
+    first: Given,
+    second: Given,
+    third: Given,
+) -> Result<Values, AllocError> {
     let mut values = Items::new(alloc);
     for given in [first, second, third] {
         if let Some(value) = value_of(alloc, given)? {
@@ -755,7 +1089,10 @@ fn arguments(alloc: Global, first: Given, second: Given, third: Given) -> Result
     Ok(values)
 }
 
-fn answer(alloc: Global, want: Result<Given, FaultKind>) -> Result<Result<Value, FaultKind>, AllocError> {
+fn answer(
+    alloc: Global,
+    want: Result<Given, FaultKind>,
+) -> Result<Result<Value, FaultKind>, AllocError> {
     match want {
         Ok(given) => Ok(Ok(value_of(alloc, given)?.unwrap_or(Value::Null))),
         Err(fault) => Ok(Err(fault)),
