@@ -1,8 +1,7 @@
 -- The steps of a join, left row by left row.
 use Rattle.std.proofs.Common.{◌≡◌, ℕ, zero, suc, ◌+◌, ◌<◌, ◌≤◌, Bool, true, false, ◌||◌, List, [], ◌∷◌, ◌++◌, length, get_or, take, replicate, Result, Ok, Err, refl, ap, sym, ◌∙◌, subst, append_assoc, add-one, arith}
 use Rattle.std.specs.Prelude.{if◌then◌else◌}
-use Rattle.std.specs.List.{All, AllZip}
-use Rattle.std.specs.Fn.{FnReturnsAtPair}
+use Rattle.std.specs.List.{AllZip}
 use Rattle.std.proofs.lemmas.List.{take_all, append-nil, length-replicate}
 use denote.Ref.{Bor}
 use Rattle.sql_types.specs.declared.fault.CallFault.{CallFault}
@@ -11,7 +10,7 @@ use Rattle.sql_types.specs.declared.kinds.JoinKind.{JoinKind}
 use Rattle.sql_types.specs.declared.kinds.JoinKind.TheVariants as join
 use Rattle.sql_types.specs.declared.value.Value.{Value}
 use Rattle.sql_types.specs.declared.value.Value.TheVariants.{Null}
-use Rattle.sql_types.specs.Outcome.{Outcome, Meaning, Answers}
+use Rattle.sql_types.specs.Outcome.{Meaning, Answers}
 use Rattle.sql_types.specs.Joined.{Row, Pairs, met, padded_right, from_left, first_kept, other_pairs, alone, from_right}
 use Rattle.eval_rows.specs.Joins.{Test, TestGives, Answered, AnsweredAll, Joins}
 use Rattle.eval_rows.specs.Met.{either_each, unmet, from_unmet}

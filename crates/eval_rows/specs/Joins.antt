@@ -3,13 +3,12 @@ use Rattle.std.specs.Prelude.{◌≡◌, ℕ, Bool, List, length, ◌++◌, Resu
 use Rattle.std.specs.List.{All, AllZip, Contains}
 use Rattle.std.specs.Fn.{Shared, FnReturnsAtPair}
 use denote.Ref.{Bor}
-use Rattle.sql_types.specs.declared.fault.FaultKind.{FaultKind}
 use Rattle.sql_types.specs.declared.fault.CallFault.{CallFault}
-use Rattle.sql_types.specs.declared.fault.CallFault.TheVariants.{Fault, OutOfMemory}
+use Rattle.sql_types.specs.declared.fault.CallFault.TheVariants.{Fault}
 use Rattle.sql_types.specs.declared.kinds.JoinKind.{JoinKind}
 use Rattle.sql_types.specs.declared.rows.Rows.{Rows}
 use Rattle.sql_types.specs.declared.value.Value.{Value}
-use Rattle.sql_types.specs.Outcome.{Outcome, Meaning}
+use Rattle.sql_types.specs.Outcome.{Meaning}
 use Rattle.sql_types.specs.Joined.{Row, Pairs, Joined}
 
 -- what calls a test of two rows, and what such a call may answer

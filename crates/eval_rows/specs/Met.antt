@@ -1,5 +1,5 @@
 -- The right rows of a join that meet no left row, where the left rows are gone through one by one.
-use Rattle.std.specs.Prelude.{ℕ, Bool, true, false, ◌||◌, if◌then◌else◌, List, [], ◌∷◌, ◌++◌, replicate}
+use Rattle.std.specs.Prelude.{ℕ, Bool, true, false, ◌||◌, List, [], ◌∷◌, ◌++◌, replicate}
 use Rattle.sql_types.specs.declared.kinds.JoinKind.{JoinKind}
 use Rattle.sql_types.specs.declared.kinds.JoinKind.TheVariants as join
 use Rattle.sql_types.specs.declared.value.Value.TheVariants.{Null}

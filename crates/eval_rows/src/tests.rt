@@ -1,20 +1,46 @@
 //! The kernels over rows of two INT64 columns. In a text `N` stands for NULL, and `|` ends a row.
+ghost use Rattle.std.specs.Prelude.{◌≡◌};
+ghost use Rattle.sql_types.specs.Sorting.{orders_column, orders_columns};
+
 use crate::*;
-use sql_types::{CallFault, FaultKind, Items, JoinKind, Named, Rows, SortItem, SqlType, Value, Values, equal, row_fits};
+use sql_types::{
+    CallFault, Column, Columns, FaultKind, Items, JoinKind, Named, Rows, SortItem, SqlType, Value,
+    Values, equal, orderable, row_fits,
+};
 use std::alloc::{AllocError, Global};
 use std::test::Fail;
 
 type Pair = (Option<i64>, Option<i64>);
 
-const LEFT: [Pair; 4] = [(Some(1), Some(10)), (Some(2), Some(20)), (Some(2), Some(21)), (None, Some(30))];
-const RIGHT: [Pair; 4] = [(Some(2), Some(5)), (Some(3), Some(6)), (Some(2), Some(7)), (None, Some(8))];
+const LEFT: [Pair; 4] = [
+    (Some(1), Some(10)),
+    (Some(2), Some(20)),
+    (Some(2), Some(21)),
+    (None, Some(30)),
+];
+
+const RIGHT: [Pair; 4] = [
+    (Some(2), Some(5)),
+    (Some(3), Some(6)),
+    (Some(2), Some(7)),
+    (None, Some(8)),
+];
 
 /// A join of the two by their first columns. NULL is no match.
 const JOINED: [(JoinKind, &str); 4] = [
     (JoinKind::Inner, "2 20 2 5|2 20 2 7|2 21 2 5|2 21 2 7|"),
-    (JoinKind::Left, "1 10 N N|2 20 2 5|2 20 2 7|2 21 2 5|2 21 2 7|N 30 N N|"),
-    (JoinKind::Right, "2 20 2 5|2 20 2 7|2 21 2 5|2 21 2 7|N N 3 6|N N N 8|"),
-    (JoinKind::Full, "1 10 N N|2 20 2 5|2 20 2 7|2 21 2 5|2 21 2 7|N 30 N N|N N 3 6|N N N 8|"),
+    (
+        JoinKind::Left,
+        "1 10 N N|2 20 2 5|2 20 2 7|2 21 2 5|2 21 2 7|N 30 N N|",
+    ),
+    (
+        JoinKind::Right,
+        "2 20 2 5|2 20 2 7|2 21 2 5|2 21 2 7|N N 3 6|N N N 8|",
+    ),
+    (
+        JoinKind::Full,
+        "1 10 N N|2 20 2 5|2 20 2 7|2 21 2 5|2 21 2 7|N 30 N N|N N 3 6|N N N 8|",
+    ),
 ];
 
 #[test]
@@ -53,8 +79,19 @@ fn joins_with_nothing(rt: HostRuntime) -> Result<(), Fail> {
     Ok(())
 }
 
-fn joined_text(alloc: Global, kind: JoinKind, left: &Rows, right: &Rows) -> Result<String, AllocError> {
-    match join_rows(alloc, kind, left, right, &|left: &[Value], right: &[Value]| same_key(left, right)) {
+fn joined_text(
+    alloc: Global,
+    kind: JoinKind,
+    left: &Rows,
+    right: &Rows,
+) -> Result<String, AllocError> {
+    match join_rows(
+        alloc,
+        kind,
+        left,
+        right,
+        &|left: &[Value], right: &[Value]| same_key(left, right),
+    ) {
         Ok(rows) => text_of(alloc, &rows),
         Err(_) => String::from_str(alloc, "?"),
     }
@@ -74,10 +111,16 @@ fn faults_of_a_test(rt: HostRuntime) -> Result<(), Fail> {
     let alloc = rt.alloc();
     let left = rows_of(alloc, &LEFT)?;
     let right = rows_of(alloc, &[(Some(1), None), (Some(9), None)])?;
-    assert_eq!(rt; joined_text(alloc, JoinKind::Left, &left, &right)?.as_str(), "?");
+    assert_eq!(rt;
+        joined_text(alloc, JoinKind::Left, &left, &right)?.as_str(),
+        "?"
+    );
     // no pair, no call
     let none = rows_of(alloc, &[])?;
-    assert_eq!(rt; joined_text(alloc, JoinKind::Inner, &none, &right)?.as_str(), "");
+    assert_eq!(rt;
+        joined_text(alloc, JoinKind::Inner, &none, &right)?.as_str(),
+        ""
+    );
     Ok(())
 }
 
@@ -91,10 +134,22 @@ const UNSORTED: [Pair; 5] = [
 
 /// By the first column and then by the second: descending or not, and with NULL first or not, in each.
 const SORTED: [([(bool, bool); 2], &str); 4] = [
-    ([(false, true), (false, true)], "N 2|1 1|1 3|2 1|9223372036854775807 N|"),
-    ([(true, false), (true, false)], "9223372036854775807 N|2 1|1 3|1 1|N 2|"),
-    ([(false, false), (true, true)], "1 3|1 1|2 1|9223372036854775807 N|N 2|"),
-    ([(true, true), (false, false)], "N 2|9223372036854775807 N|2 1|1 1|1 3|"),
+    (
+        [(false, true), (false, true)],
+        "N 2|1 1|1 3|2 1|9223372036854775807 N|",
+    ),
+    (
+        [(true, false), (true, false)],
+        "9223372036854775807 N|2 1|1 3|1 1|N 2|",
+    ),
+    (
+        [(false, false), (true, true)],
+        "1 3|1 1|2 1|9223372036854775807 N|N 2|",
+    ),
+    (
+        [(true, true), (false, false)],
+        "N 2|9223372036854775807 N|2 1|1 1|1 3|",
+    ),
 ];
 
 #[test]
@@ -110,9 +165,35 @@ fn sorts(rt: HostRuntime) -> Result<(), Fail> {
             })?;
         }
         let rows = rows_of(alloc, &UNSORTED)?;
-        assert_eq!(rt; text_of(alloc, &sort_rows(alloc, rows, &items)?)?.as_str(), want);
+        assert!(rt; orders(&rows.columns, items.as_slice()));
+        assert_eq!(rt;
+            text_of(alloc, &sort_rows(alloc, rows, &items)?)?.as_str(),
+            want
+        );
     }
     Ok(())
+}
+
+/// Whether each item goes by a column of an orderable type.
+fn orders(columns: &Columns, items: &[SortItem]) -> bool
+    ensures { result ≡ orders_columns columns.now items.now }
+{
+    for item in items {
+        if !orders_by(columns.as_slice(), item.place) {
+            return false;
+        }
+    }
+    true
+}
+
+#[tactic(auto, using(crate::proofs::SortLaws::orders_some, crate::proofs::SortLaws::orders_none))]
+fn orders_by(columns: &[Column], place: usize) -> bool
+    ensures { result ≡ orders_column columns.now place }
+{
+    match columns.get(place) {
+        Some(column) => orderable(&column.ty),
+        None => true,
+    }
 }
 
 /// How many are skipped and taken of five rows.
@@ -136,7 +217,11 @@ fn cuts(rt: HostRuntime) -> Result<(), Fail> {
     let alloc = rt.alloc();
     for (skip, take, want) in CUTS {
         let rows = rows_of(alloc, &UNSORTED)?;
-        assert_eq!(rt; text_of(alloc, &cut_rows(rows, skip, take))?.as_str(), want, "{skip} {take}");
+        assert_eq!(rt;
+            text_of(alloc, &cut_rows(rows, skip, take))?.as_str(),
+            want,
+            "{skip} {take}"
+        );
     }
     Ok(())
 }

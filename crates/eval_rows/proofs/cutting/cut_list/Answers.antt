@@ -1,4 +1,4 @@
-use Rattle.std.proofs.Common.{◌∙◌, ◌+◌, ◌≤◌, List, length, drop, ap, arith}
+use Rattle.std.proofs.Common.{◌∙◌, List, drop, ap, arith}
 use Rattle.sql_types.specs.Joined.{Row}
 use Rattle.eval_rows.proofs.CutLaws.{cut_taken, cut_whole}
 use Rattle.eval_rows.proofs.cutting.cut_list.Goals as goal

@@ -1,4 +1,4 @@
-use Rattle.std.proofs.Common.{◌≡◌, ◌<◌, ◌∙◌, Bool, List, true, length, set, ap, arith}
+use Rattle.std.proofs.Common.{◌<◌, ◌∙◌, Bool, List, true, length, set, ap, arith}
 use Rattle.std.proofs.lemmas.List.{length-set}
 use Rattle.eval_rows.proofs.NoteLaws.{by_none, noted_true, noted_false}
 use Rattle.eval_rows.proofs.join_parts.note_met.Goals as goal

@@ -1,4 +1,4 @@
-use Rattle.std.proofs.Common.{Bool, List, [], ◌∷◌, ◌++◌, ◌+◌, Ok, take, sym, subst}
+use Rattle.std.proofs.Common.{Bool, List, ◌+◌, Ok, take, sym, subst}
 use Rattle.sql_types.specs.Joined.{Row}
 use Rattle.eval_rows.specs.Joins.{TestGives, Answered}
 use Rattle.eval_rows.proofs.JoinLaws.{answered_more}
