@@ -165,7 +165,7 @@ fn sorts(rt: HostRuntime) -> Result<(), Fail> {
             })?;
         }
         let rows = rows_of(alloc, &UNSORTED)?;
-        assert!(rt; orders(&rows.columns, items.as_slice()));
+        assert!(rt; can_sort(&rows.columns, items.as_slice()));
         assert_eq!(rt;
             text_of(alloc, &sort_rows(alloc, rows, &items)?)?.as_str(),
             want
@@ -175,7 +175,7 @@ fn sorts(rt: HostRuntime) -> Result<(), Fail> {
 }
 
 /// Whether each item goes by a column of an orderable type.
-fn orders(columns: &Columns, items: &[SortItem]) -> bool
+fn can_sort(columns: &Columns, items: &[SortItem]) -> bool
     ensures { result ≡ orders_columns columns.now items.now }
 {
     for item in items {
