@@ -1,4 +1,5 @@
 mod Examples
+mod FitLaws
 mod NumberLaws
 mod StepLaws
 mod ValueLaws

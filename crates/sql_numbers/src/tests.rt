@@ -1,8 +1,7 @@
 //! Each call on its corners. A number that isn't there is NULL.
-ghost use Rattle.std.specs.Prelude.{◌≡◌, [], ◌∷◌, true};
+ghost use Rattle.std.specs.Prelude.{◌≡◌, true};
 ghost use Rattle.sql_types.specs.declared.sql_type.SqlType.TheVariants as types;
 ghost use Rattle.sql_types.specs.Fits.{fits};
-ghost use Rattle.sql_types.specs.Takes.{fits_types, fits_types_or_less};
 
 use crate::*;
 use sql_types::FaultKind::{Argument, DivisionByZero, Index, OutOfRange, User};
@@ -11,6 +10,7 @@ use std::alloc::{AllocError, Global};
 use std::test::Fail;
 
 const LEAST: Option<i64> = Some(i64::MIN);
+
 const GREATEST: Option<i64> = Some(i64::MAX);
 
 /// The calls that take two INT64.
@@ -31,7 +31,12 @@ enum OfInts {
     SafeMultiply,
 }
 
-const INTS: [(OfInts, Option<i64>, Option<i64>, Result<Option<i64>, FaultKind>); 64] = [
+const INTS: [(
+    OfInts,
+    Option<i64>,
+    Option<i64>,
+    Result<Option<i64>, FaultKind>,
+); 64] = [
     (OfInts::Add, Some(2), Some(3), Ok(Some(5))),
     (OfInts::Add, GREATEST, Some(0), Ok(GREATEST)),
     (OfInts::Add, GREATEST, Some(1), Err(OutOfRange)),
@@ -152,26 +157,51 @@ enum OfUints {
     SafeMultiply,
 }
 
-const UINTS: [(OfUints, Option<u64>, Option<u64>, Result<Option<u64>, FaultKind>); 27] = [
-    (OfUints::Add, Some(u64::MAX - 1), Some(1), Ok(Some(u64::MAX))),
+const UINTS: [(
+    OfUints,
+    Option<u64>,
+    Option<u64>,
+    Result<Option<u64>, FaultKind>,
+); 27] = [
+    (
+        OfUints::Add,
+        Some(u64::MAX - 1),
+        Some(1),
+        Ok(Some(u64::MAX)),
+    ),
     (OfUints::Add, Some(u64::MAX), Some(1), Err(OutOfRange)),
     (OfUints::Add, None, Some(1), Ok(None)),
     (OfUints::Mul, Some(u64::MAX), Some(1), Ok(Some(u64::MAX))),
     (OfUints::Mul, Some(1 << 32), Some(1 << 32), Err(OutOfRange)),
     (OfUints::Mul, Some(0), None, Ok(None)),
-    (OfUints::Div, Some(u64::MAX), Some(2), Ok(Some(9_223_372_036_854_775_807))),
+    (
+        OfUints::Div,
+        Some(u64::MAX),
+        Some(2),
+        Ok(Some(9_223_372_036_854_775_807)),
+    ),
     (OfUints::Div, Some(0), Some(0), Err(DivisionByZero)),
     (OfUints::Div, None, Some(0), Ok(None)),
     (OfUints::Mod, Some(u64::MAX), Some(10), Ok(Some(5))),
     (OfUints::Mod, Some(1), Some(0), Err(DivisionByZero)),
     (OfUints::Mod, Some(1), None, Ok(None)),
-    (OfUints::BitAnd, Some(u64::MAX), Some(1 << 63), Ok(Some(1 << 63))),
+    (
+        OfUints::BitAnd,
+        Some(u64::MAX),
+        Some(1 << 63),
+        Ok(Some(1 << 63)),
+    ),
     (OfUints::BitAnd, Some(12), Some(10), Ok(Some(8))),
     (OfUints::BitAnd, None, Some(0), Ok(None)),
     (OfUints::BitXor, Some(u64::MAX), Some(u64::MAX), Ok(Some(0))),
     (OfUints::BitXor, Some(12), Some(10), Ok(Some(6))),
     (OfUints::BitXor, Some(0), None, Ok(None)),
-    (OfUints::BitOr, Some(1 << 63), Some((1 << 63) - 1), Ok(Some(u64::MAX))),
+    (
+        OfUints::BitOr,
+        Some(1 << 63),
+        Some((1 << 63) - 1),
+        Ok(Some(u64::MAX)),
+    ),
     (OfUints::BitOr, Some(12), Some(10), Ok(Some(14))),
     (OfUints::BitOr, None, Some(u64::MAX), Ok(None)),
     (OfUints::SafeAdd, Some(2), Some(3), Ok(Some(5))),
@@ -186,7 +216,10 @@ const UINTS: [(OfUints, Option<u64>, Option<u64>, Result<Option<u64>, FaultKind>
 fn two_uints(rt: HostRuntime) {
     for (call, left, right, want) in UINTS {
         let got = of_uints(call, uint(left), uint(right));
-        assert!(rt; agree(got, uint_answer(want)), "{call:?} {left:?} {right:?}");
+        assert!(rt;
+            agree(got, uint_answer(want)),
+            "{call:?} {left:?} {right:?}"
+        );
     }
 }
 
@@ -231,14 +264,25 @@ fn differences_of_uints(rt: HostRuntime) {
         let got = sub_uint64_uint64(&[uint(left), uint(right)]);
         assert!(rt; agree(got, int_answer(want)), "{left:?} {right:?}");
         let got = safe_subtract_uint64_uint64(&[uint(left), uint(right)]);
-        assert!(rt; same(&got, &int(want.unwrap_or(None))), "{left:?} {right:?}");
+        assert!(rt;
+            same(&got, &int(want.unwrap_or(None))),
+            "{left:?} {right:?}"
+        );
     }
 }
 
 /// A UINT64, places, and the number so many places to the left and to the right.
-const SHIFTS: [(Option<u64>, Option<i64>, Result<(Option<u64>, Option<u64>), FaultKind>); 7] = [
+const SHIFTS: [(
+    Option<u64>,
+    Option<i64>,
+    Result<(Option<u64>, Option<u64>), FaultKind>,
+); 7] = [
     (Some(3), Some(0), Ok((Some(3), Some(3)))),
-    (Some(u64::MAX), Some(1), Ok((Some(u64::MAX - 1), Some((1 << 63) - 1)))),
+    (
+        Some(u64::MAX),
+        Some(1),
+        Ok((Some(u64::MAX - 1), Some((1 << 63) - 1))),
+    ),
     (Some(3), Some(63), Ok((Some(1 << 63), Some(0)))),
     (Some(u64::MAX), Some(64), Ok((Some(0), Some(0)))),
     (Some(1), GREATEST, Ok((Some(0), Some(0)))),
@@ -292,9 +336,16 @@ const INT: [(OfInt, Option<i64>, Result<Option<i64>, FaultKind>); 16] = [
 #[test]
 fn one_int(rt: HostRuntime) {
     for (call, number, want) in INT {
-        assert!(rt; agree(of_int(call, int(number)), int_answer(want)), "{call:?} {number:?}");
+        assert!(rt;
+            agree(of_int(call, int(number)), int_answer(want)),
+            "{call:?} {number:?}"
+        );
     }
-    for (number, flipped) in [(Some(0), Some(u64::MAX)), (Some(u64::MAX), Some(0)), (None, None)] {
+    for (number, flipped) in [
+        (Some(0), Some(u64::MAX)),
+        (Some(u64::MAX), Some(0)),
+        (None, None),
+    ] {
         assert!(rt; same(&flip_uint64(&[uint(number)]), &uint(flipped)));
         assert!(rt; same(&pos_uint64(&[uint(number)]), &uint(number)));
     }
@@ -310,6 +361,72 @@ fn of_int(call: OfInt, number: Value) -> Result<Value, FaultKind>
         OfInt::Flip => Ok(flip_int64(&values)),
         OfInt::Abs => abs_int64(&values),
         OfInt::Sign => Ok(sign_int64(&values)),
+    }
+}
+
+/// The calls on BOOL.
+#[derive(Clone, Copy, Debug)]
+enum Logic {
+    Not,
+    And,
+    Or,
+    IsTrue,
+    IsFalse,
+}
+
+/// One or two truth values and the answer.
+const LOGIC: [(Logic, Option<bool>, Option<bool>, Option<bool>); 25] = [
+    (Logic::Not, Some(true), None, Some(false)),
+    (Logic::Not, Some(false), None, Some(true)),
+    (Logic::Not, None, None, None),
+    (Logic::And, Some(true), Some(true), Some(true)),
+    (Logic::And, Some(true), Some(false), Some(false)),
+    (Logic::And, None, Some(false), Some(false)),
+    (Logic::And, Some(false), None, Some(false)),
+    (Logic::And, None, Some(true), None),
+    (Logic::And, Some(true), None, None),
+    (Logic::And, None, None, None),
+    (Logic::Or, Some(false), Some(false), Some(false)),
+    (Logic::Or, Some(false), Some(true), Some(true)),
+    (Logic::Or, None, Some(true), Some(true)),
+    (Logic::Or, Some(true), None, Some(true)),
+    (Logic::Or, None, Some(false), None),
+    (Logic::Or, Some(false), None, None),
+    (Logic::Or, None, None, None),
+    (Logic::IsTrue, Some(true), None, Some(true)),
+    (Logic::IsTrue, Some(false), None, Some(false)),
+    (Logic::IsTrue, None, None, Some(false)),
+    (Logic::IsFalse, Some(true), None, Some(false)),
+    (Logic::IsFalse, Some(false), None, Some(true)),
+    (Logic::IsFalse, None, None, Some(false)),
+    (Logic::And, Some(false), Some(false), Some(false)),
+    (Logic::Or, Some(true), Some(true), Some(true)),
+];
+
+#[test]
+fn truth_values(rt: HostRuntime) {
+    for (call, left, right, want) in LOGIC {
+        assert!(rt;
+            same(&of_truths(call, truth(left), truth(right)), &truth(want)),
+            "{call:?} {left:?} {right:?}"
+        );
+    }
+}
+
+fn of_truths(call: Logic, left: Value, right: Value) -> Value {
+    match call {
+        Logic::Not => not_bool(&[left]),
+        Logic::And => and_bool_bool(&[left, right]),
+        Logic::Or => or_bool_bool(&[left, right]),
+        Logic::IsTrue => is_true_bool(&[left]),
+        Logic::IsFalse => is_false_bool(&[left]),
+    }
+}
+
+fn truth(truth: Option<bool>) -> Value {
+    match truth {
+        Some(truth) => Value::Bool(truth),
+        None => Value::Null,
     }
 }
 
@@ -342,47 +459,128 @@ enum Plain {
     Gt,
     Ge,
     Between,
-    Not,
-    And,
-    Or,
     IsNull,
-    IsTrue,
-    IsFalse,
     IsError,
     Error,
     ArrayLength,
     ArrayIncludes,
 }
 
-const PLAIN: [(Plain, Given, Given, Given, Result<Given, FaultKind>); 98] = [
+/// Equality, three-valued but for IS DISTINCT FROM.
+const EQUAL: [(Plain, Given, Given, Given, Result<Given, FaultKind>); 23] = [
     (Plain::Eq, Int(1), Int(1), Nothing, Ok(Bool(true))),
     (Plain::Eq, Uint(1), Uint(u64::MAX), Nothing, Ok(Bool(false))),
     (Plain::Eq, Null, Null, Nothing, Ok(Null)),
     (Plain::Eq, Int(1), Null, Nothing, Ok(Null)),
-    (Plain::Eq, Given::Text("a"), Given::Text("A"), Nothing, Ok(Bool(false))),
+    (
+        Plain::Eq,
+        Given::Text("a"),
+        Given::Text("A"),
+        Nothing,
+        Ok(Bool(false)),
+    ),
     (Plain::Eq, Date(0), Date(0), Nothing, Ok(Bool(true))),
     (Plain::Eq, Bool(false), Bool(false), Nothing, Ok(Bool(true))),
     // a STRUCT by AND over its fields
-    (Plain::Eq, Pair(Some(1), None), Pair(Some(2), Some(2)), Nothing, Ok(Bool(false))),
-    (Plain::Eq, Pair(Some(1), None), Pair(Some(1), Some(2)), Nothing, Ok(Null)),
-    (Plain::Eq, Pair(Some(1), Some(2)), Pair(Some(1), Some(2)), Nothing, Ok(Bool(true))),
+    (
+        Plain::Eq,
+        Pair(Some(1), None),
+        Pair(Some(2), Some(2)),
+        Nothing,
+        Ok(Bool(false)),
+    ),
+    (
+        Plain::Eq,
+        Pair(Some(1), None),
+        Pair(Some(1), Some(2)),
+        Nothing,
+        Ok(Null),
+    ),
+    (
+        Plain::Eq,
+        Pair(Some(1), Some(2)),
+        Pair(Some(1), Some(2)),
+        Nothing,
+        Ok(Bool(true)),
+    ),
     (Plain::Ne, Int(1), Int(1), Nothing, Ok(Bool(false))),
     (Plain::Ne, Int(1), Int(2), Nothing, Ok(Bool(true))),
     (Plain::Ne, Int(1), Null, Nothing, Ok(Null)),
-    (Plain::Ne, Pair(Some(1), None), Pair(Some(2), None), Nothing, Ok(Bool(true))),
+    (
+        Plain::Ne,
+        Pair(Some(1), None),
+        Pair(Some(2), None),
+        Nothing,
+        Ok(Bool(true)),
+    ),
     (Plain::Distinct, Null, Null, Nothing, Ok(Bool(false))),
     (Plain::Distinct, Int(1), Null, Nothing, Ok(Bool(true))),
     (Plain::Distinct, Int(1), Int(1), Nothing, Ok(Bool(false))),
-    (Plain::Distinct, Pair(Some(1), None), Pair(Some(1), None), Nothing, Ok(Bool(false))),
-    (Plain::Distinct, Pair(Some(1), None), Pair(Some(1), Some(1)), Nothing, Ok(Bool(true))),
+    (
+        Plain::Distinct,
+        Pair(Some(1), None),
+        Pair(Some(1), None),
+        Nothing,
+        Ok(Bool(false)),
+    ),
+    (
+        Plain::Distinct,
+        Pair(Some(1), None),
+        Pair(Some(1), Some(1)),
+        Nothing,
+        Ok(Bool(true)),
+    ),
+    (
+        Plain::Eq,
+        Int(i64::MIN),
+        Int(i64::MIN),
+        Nothing,
+        Ok(Bool(true)),
+    ),
+    (Plain::Ne, Null, Null, Nothing, Ok(Null)),
+    (
+        Plain::Ne,
+        Pair(Some(1), None),
+        Pair(Some(1), None),
+        Nothing,
+        Ok(Null),
+    ),
+    (Plain::Distinct, Null, Int(1), Nothing, Ok(Bool(true))),
+];
+
+#[test]
+fn equality(rt: HostRuntime) -> Result<(), Fail> {
+    for (call, first, second, third, want) in EQUAL {
+        assert!(rt;
+            answers_as(rt.alloc(), call, first, second, third, want)?,
+            "{call:?} {first:?} {second:?}"
+        );
+    }
+    Ok(())
+}
+
+/// Order, and BETWEEN.
+const ORDERED: [(Plain, Given, Given, Given, Result<Given, FaultKind>); 34] = [
     (Plain::Lt, Int(-1), Int(0), Nothing, Ok(Bool(true))),
     (Plain::Lt, Int(0), Int(0), Nothing, Ok(Bool(false))),
     (Plain::Lt, Uint(1), Uint(u64::MAX), Nothing, Ok(Bool(true))),
     (Plain::Lt, Bool(false), Bool(true), Nothing, Ok(Bool(true))),
     (Plain::Lt, Date(-1), Date(0), Nothing, Ok(Bool(true))),
     // by bytes
-    (Plain::Lt, Given::Text("\u{ffff}"), Given::Text("\u{1f600}"), Nothing, Ok(Bool(true))),
-    (Plain::Lt, Given::Text(""), Given::Text("a"), Nothing, Ok(Bool(true))),
+    (
+        Plain::Lt,
+        Given::Text("\u{ffff}"),
+        Given::Text("\u{1f600}"),
+        Nothing,
+        Ok(Bool(true)),
+    ),
+    (
+        Plain::Lt,
+        Given::Text(""),
+        Given::Text("a"),
+        Nothing,
+        Ok(Bool(true)),
+    ),
     (Plain::Lt, Null, Int(0), Nothing, Ok(Null)),
     (Plain::Le, Int(0), Int(0), Nothing, Ok(Bool(true))),
     (Plain::Le, Int(1), Int(0), Nothing, Ok(Bool(false))),
@@ -391,7 +589,13 @@ const PLAIN: [(Plain, Given, Given, Given, Result<Given, FaultKind>); 98] = [
     (Plain::Gt, Int(0), Int(0), Nothing, Ok(Bool(false))),
     (Plain::Gt, Null, Null, Nothing, Ok(Null)),
     (Plain::Ge, Int(0), Int(0), Nothing, Ok(Bool(true))),
-    (Plain::Ge, Given::Text("a"), Given::Text("b"), Nothing, Ok(Bool(false))),
+    (
+        Plain::Ge,
+        Given::Text("a"),
+        Given::Text("b"),
+        Nothing,
+        Ok(Bool(false)),
+    ),
     (Plain::Ge, Int(0), Null, Nothing, Ok(Null)),
     (Plain::Between, Int(5), Int(5), Int(5), Ok(Bool(true))),
     (Plain::Between, Int(5), Int(1), Int(4), Ok(Bool(false))),
@@ -401,72 +605,138 @@ const PLAIN: [(Plain, Given, Given, Given, Result<Given, FaultKind>); 98] = [
     (Plain::Between, Int(5), Int(9), Null, Ok(Bool(false))),
     (Plain::Between, Int(5), Null, Int(9), Ok(Null)),
     (Plain::Between, Null, Int(1), Int(9), Ok(Null)),
-    (Plain::Not, Bool(true), Nothing, Nothing, Ok(Bool(false))),
-    (Plain::Not, Bool(false), Nothing, Nothing, Ok(Bool(true))),
-    (Plain::Not, Null, Nothing, Nothing, Ok(Null)),
-    (Plain::And, Bool(true), Bool(true), Nothing, Ok(Bool(true))),
-    (Plain::And, Bool(true), Bool(false), Nothing, Ok(Bool(false))),
-    (Plain::And, Null, Bool(false), Nothing, Ok(Bool(false))),
-    (Plain::And, Bool(false), Null, Nothing, Ok(Bool(false))),
-    (Plain::And, Null, Bool(true), Nothing, Ok(Null)),
-    (Plain::And, Bool(true), Null, Nothing, Ok(Null)),
-    (Plain::And, Null, Null, Nothing, Ok(Null)),
-    (Plain::Or, Bool(false), Bool(false), Nothing, Ok(Bool(false))),
-    (Plain::Or, Bool(false), Bool(true), Nothing, Ok(Bool(true))),
-    (Plain::Or, Null, Bool(true), Nothing, Ok(Bool(true))),
-    (Plain::Or, Bool(true), Null, Nothing, Ok(Bool(true))),
-    (Plain::Or, Null, Bool(false), Nothing, Ok(Null)),
-    (Plain::Or, Bool(false), Null, Nothing, Ok(Null)),
-    (Plain::Or, Null, Null, Nothing, Ok(Null)),
+    (
+        Plain::Lt,
+        Int(i64::MIN),
+        Int(i64::MAX),
+        Nothing,
+        Ok(Bool(true)),
+    ),
+    (
+        Plain::Le,
+        Given::Text("ab"),
+        Given::Text("b"),
+        Nothing,
+        Ok(Bool(true)),
+    ),
+    (
+        Plain::Gt,
+        Given::Text("b"),
+        Given::Text("ab"),
+        Nothing,
+        Ok(Bool(true)),
+    ),
+    (Plain::Ge, Bool(true), Bool(false), Nothing, Ok(Bool(true))),
+    (
+        Plain::Gt,
+        Uint(u64::MAX),
+        Uint(1 << 63),
+        Nothing,
+        Ok(Bool(true)),
+    ),
+    (Plain::Lt, Null, Null, Nothing, Ok(Null)),
+    (Plain::Le, Null, Int(0), Nothing, Ok(Null)),
+    (Plain::Ge, Null, Int(0), Nothing, Ok(Null)),
+    (Plain::Gt, Int(0), Null, Nothing, Ok(Null)),
+    (
+        Plain::Between,
+        Given::Text("b"),
+        Given::Text("a"),
+        Given::Text("c"),
+        Ok(Bool(true)),
+    ),
+];
+
+#[test]
+fn orders(rt: HostRuntime) -> Result<(), Fail> {
+    for (call, first, second, third, want) in ORDERED {
+        assert!(rt;
+            answers_as(rt.alloc(), call, first, second, third, want)?,
+            "{call:?} {first:?} {second:?}"
+        );
+    }
+    Ok(())
+}
+
+/// Tests of one value, lengths, and ERROR.
+const TESTED: [(Plain, Given, Given, Given, Result<Given, FaultKind>); 16] = [
     (Plain::IsNull, Null, Nothing, Nothing, Ok(Bool(true))),
     (Plain::IsNull, Int(0), Nothing, Nothing, Ok(Bool(false))),
     (Plain::IsNull, Array(&[]), Nothing, Nothing, Ok(Bool(false))),
-    (Plain::IsNull, Pair(None, None), Nothing, Nothing, Ok(Bool(false))),
-    (Plain::IsTrue, Bool(true), Nothing, Nothing, Ok(Bool(true))),
-    (Plain::IsTrue, Bool(false), Nothing, Nothing, Ok(Bool(false))),
-    (Plain::IsTrue, Null, Nothing, Nothing, Ok(Bool(false))),
-    (Plain::IsFalse, Bool(true), Nothing, Nothing, Ok(Bool(false))),
-    (Plain::IsFalse, Bool(false), Nothing, Nothing, Ok(Bool(true))),
-    (Plain::IsFalse, Null, Nothing, Nothing, Ok(Bool(false))),
+    (
+        Plain::IsNull,
+        Pair(None, None),
+        Nothing,
+        Nothing,
+        Ok(Bool(false)),
+    ),
     (Plain::IsError, Int(1), Nothing, Nothing, Ok(Bool(false))),
     (Plain::IsError, Null, Nothing, Nothing, Ok(Bool(false))),
     (Plain::Error, Given::Text("x"), Nothing, Nothing, Err(User)),
     (Plain::Error, Null, Nothing, Nothing, Err(User)),
     (Plain::ArrayLength, Array(&[]), Nothing, Nothing, Ok(Int(0))),
-    (Plain::ArrayLength, Array(&[Some(1), None]), Nothing, Nothing, Ok(Int(2))),
+    (
+        Plain::ArrayLength,
+        Array(&[Some(1), None]),
+        Nothing,
+        Nothing,
+        Ok(Int(2)),
+    ),
     (Plain::ArrayLength, Null, Nothing, Nothing, Ok(Null)),
-    (Plain::ArrayIncludes, Array(&[Some(1), None, Some(2)]), Int(2), Nothing, Ok(Bool(true))),
+    (
+        Plain::ArrayIncludes,
+        Array(&[Some(1), None, Some(2)]),
+        Int(2),
+        Nothing,
+        Ok(Bool(true)),
+    ),
     // FALSE, not NULL
-    (Plain::ArrayIncludes, Array(&[Some(1), None]), Int(2), Nothing, Ok(Bool(false))),
-    (Plain::ArrayIncludes, Array(&[]), Int(2), Nothing, Ok(Bool(false))),
-    (Plain::ArrayIncludes, Array(&[None]), Null, Nothing, Ok(Null)),
+    (
+        Plain::ArrayIncludes,
+        Array(&[Some(1), None]),
+        Int(2),
+        Nothing,
+        Ok(Bool(false)),
+    ),
+    (
+        Plain::ArrayIncludes,
+        Array(&[]),
+        Int(2),
+        Nothing,
+        Ok(Bool(false)),
+    ),
+    (
+        Plain::ArrayIncludes,
+        Array(&[None]),
+        Null,
+        Nothing,
+        Ok(Null),
+    ),
     (Plain::ArrayIncludes, Null, Int(2), Nothing, Ok(Null)),
-    (Plain::Eq, Int(i64::MIN), Int(i64::MIN), Nothing, Ok(Bool(true))),
-    (Plain::Lt, Int(i64::MIN), Int(i64::MAX), Nothing, Ok(Bool(true))),
-    (Plain::Le, Given::Text("ab"), Given::Text("b"), Nothing, Ok(Bool(true))),
-    (Plain::Gt, Given::Text("b"), Given::Text("ab"), Nothing, Ok(Bool(true))),
-    (Plain::Ge, Bool(true), Bool(false), Nothing, Ok(Bool(true))),
-    (Plain::Gt, Uint(u64::MAX), Uint(1 << 63), Nothing, Ok(Bool(true))),
-    (Plain::Lt, Null, Null, Nothing, Ok(Null)),
-    (Plain::Le, Null, Int(0), Nothing, Ok(Null)),
-    (Plain::Ge, Null, Int(0), Nothing, Ok(Null)),
-    (Plain::Gt, Int(0), Null, Nothing, Ok(Null)),
-    (Plain::Ne, Null, Null, Nothing, Ok(Null)),
-    (Plain::Ne, Pair(Some(1), None), Pair(Some(1), None), Nothing, Ok(Null)),
-    (Plain::Between, Given::Text("b"), Given::Text("a"), Given::Text("c"), Ok(Bool(true))),
-    (Plain::And, Bool(false), Bool(false), Nothing, Ok(Bool(false))),
-    (Plain::Or, Bool(true), Bool(true), Nothing, Ok(Bool(true))),
-    (Plain::Distinct, Null, Int(1), Nothing, Ok(Bool(true))),
 ];
 
 #[test]
-fn plain_calls(rt: HostRuntime) -> Result<(), Fail> {
-    for (call, first, second, third, want) in PLAIN {
-        let values = arguments(rt.alloc(), first, second, third)?;
-        let want = answer(rt.alloc(), want)?;
-        assert!(rt; agree(answer_of_plain(call, values.as_slice()), want), "{call:?} {first:?} {second:?}");
+fn tested(rt: HostRuntime) -> Result<(), Fail> {
+    for (call, first, second, third, want) in TESTED {
+        assert!(rt;
+            answers_as(rt.alloc(), call, first, second, third, want)?,
+            "{call:?} {first:?} {second:?}"
+        );
     }
     Ok(())
+}
+
+fn answers_as(
+    alloc: Global,
+    call: Plain,
+    first: Given,
+    second: Given,
+    third: Given,
+    want: Result<Given, FaultKind>,
+) -> Result<bool, AllocError> {
+    let values = arguments(alloc, first, second, third)?;
+    let want = answer(alloc, want)?;
+    Ok(agree(answer_of_plain(call, values.as_slice()), want))
 }
 
 fn answer_of_plain(call: Plain, values: &[Value]) -> Result<Value, FaultKind> {
@@ -479,12 +749,7 @@ fn answer_of_plain(call: Plain, values: &[Value]) -> Result<Value, FaultKind> {
         Plain::Gt => Ok(gt_any_any(values)),
         Plain::Ge => Ok(ge_any_any(values)),
         Plain::Between => Ok(between_any_any_any(values)),
-        Plain::Not => Ok(not_bool(values)),
-        Plain::And => Ok(and_bool_bool(values)),
-        Plain::Or => Ok(or_bool_bool(values)),
         Plain::IsNull => Ok(is_null_any(values)),
-        Plain::IsTrue => Ok(is_true_bool(values)),
-        Plain::IsFalse => Ok(is_false_bool(values)),
         Plain::IsError => Ok(iserror_any(values)),
         Plain::Error => error_string(values),
         Plain::ArrayLength => array_length_array(values),
@@ -518,42 +783,144 @@ const MADE: [(Made, Given, Given, Given, Result<Given, FaultKind>); 46] = [
     (Made::IfNull, Int(1), Int(2), Nothing, Ok(Int(1))),
     (Made::IfNull, Null, Int(2), Nothing, Ok(Int(2))),
     (Made::IfNull, Null, Null, Nothing, Ok(Null)),
-    (Made::Coalesce, Null, Null, Given::Text("c"), Ok(Given::Text("c"))),
-    (Made::Coalesce, Given::Text("a"), Null, Nothing, Ok(Given::Text("a"))),
+    (
+        Made::Coalesce,
+        Null,
+        Null,
+        Given::Text("c"),
+        Ok(Given::Text("c")),
+    ),
+    (
+        Made::Coalesce,
+        Given::Text("a"),
+        Null,
+        Nothing,
+        Ok(Given::Text("a")),
+    ),
     (Made::Coalesce, Null, Nothing, Nothing, Ok(Null)),
     (Made::NullIf, Int(1), Int(1), Nothing, Ok(Null)),
     (Made::NullIf, Int(1), Int(2), Nothing, Ok(Int(1))),
     (Made::NullIf, Int(1), Null, Nothing, Ok(Int(1))),
     (Made::NullIf, Null, Int(1), Nothing, Ok(Null)),
-    (Made::NullIf, Pair(Some(1), None), Pair(Some(1), None), Nothing, Ok(Pair(Some(1), None))),
+    (
+        Made::NullIf,
+        Pair(Some(1), None),
+        Pair(Some(1), None),
+        Nothing,
+        Ok(Pair(Some(1), None)),
+    ),
     (Made::IfError, Int(1), Int(2), Nothing, Ok(Int(1))),
     (Made::IfError, Null, Int(2), Nothing, Ok(Null)),
     (Made::NullIfError, Int(1), Nothing, Nothing, Ok(Int(1))),
     (Made::NullIfError, Null, Nothing, Nothing, Ok(Null)),
     (Made::Greatest, Int(2), Int(3), Int(1), Ok(Int(3))),
     (Made::Greatest, Int(2), Null, Int(1), Ok(Null)),
-    (Made::Greatest, Int(i64::MIN), Nothing, Nothing, Ok(Int(i64::MIN))),
-    (Made::Greatest, Given::Text("a"), Given::Text("b"), Nothing, Ok(Given::Text("b"))),
-    (Made::Greatest, Uint(u64::MAX), Uint(0), Nothing, Ok(Uint(u64::MAX))),
+    (
+        Made::Greatest,
+        Int(i64::MIN),
+        Nothing,
+        Nothing,
+        Ok(Int(i64::MIN)),
+    ),
+    (
+        Made::Greatest,
+        Given::Text("a"),
+        Given::Text("b"),
+        Nothing,
+        Ok(Given::Text("b")),
+    ),
+    (
+        Made::Greatest,
+        Uint(u64::MAX),
+        Uint(0),
+        Nothing,
+        Ok(Uint(u64::MAX)),
+    ),
     (Made::Least, Int(2), Int(3), Int(1), Ok(Int(1))),
     (Made::Least, Int(2), Int(3), Null, Ok(Null)),
     (Made::Least, Date(5), Date(-5), Nothing, Ok(Date(-5))),
-    (Made::Least, Bool(true), Bool(false), Nothing, Ok(Bool(false))),
-    (Made::Least, Given::Text("b"), Nothing, Nothing, Ok(Given::Text("b"))),
-    (Made::ArrayFirst, Array(&[Some(1), Some(2)]), Nothing, Nothing, Ok(Int(1))),
-    (Made::ArrayFirst, Array(&[None, Some(2)]), Nothing, Nothing, Ok(Null)),
+    (
+        Made::Least,
+        Bool(true),
+        Bool(false),
+        Nothing,
+        Ok(Bool(false)),
+    ),
+    (
+        Made::Least,
+        Given::Text("b"),
+        Nothing,
+        Nothing,
+        Ok(Given::Text("b")),
+    ),
+    (
+        Made::ArrayFirst,
+        Array(&[Some(1), Some(2)]),
+        Nothing,
+        Nothing,
+        Ok(Int(1)),
+    ),
+    (
+        Made::ArrayFirst,
+        Array(&[None, Some(2)]),
+        Nothing,
+        Nothing,
+        Ok(Null),
+    ),
     (Made::ArrayFirst, Array(&[]), Nothing, Nothing, Err(Index)),
     (Made::ArrayFirst, Null, Nothing, Nothing, Ok(Null)),
-    (Made::ArrayLast, Array(&[Some(1), Some(2)]), Nothing, Nothing, Ok(Int(2))),
+    (
+        Made::ArrayLast,
+        Array(&[Some(1), Some(2)]),
+        Nothing,
+        Nothing,
+        Ok(Int(2)),
+    ),
     (Made::ArrayLast, Array(&[]), Nothing, Nothing, Err(Index)),
     (Made::ArrayLast, Null, Nothing, Nothing, Ok(Null)),
-    (Made::ArrayReverse, Array(&[Some(1), None, Some(3)]), Nothing, Nothing, Ok(Array(&[Some(3), None, Some(1)]))),
-    (Made::ArrayReverse, Array(&[]), Nothing, Nothing, Ok(Array(&[]))),
+    (
+        Made::ArrayReverse,
+        Array(&[Some(1), None, Some(3)]),
+        Nothing,
+        Nothing,
+        Ok(Array(&[Some(3), None, Some(1)])),
+    ),
+    (
+        Made::ArrayReverse,
+        Array(&[]),
+        Nothing,
+        Nothing,
+        Ok(Array(&[])),
+    ),
     (Made::ArrayReverse, Null, Nothing, Nothing, Ok(Null)),
-    (Made::ArrayConcat, Array(&[Some(1)]), Array(&[]), Array(&[None, Some(2)]), Ok(Array(&[Some(1), None, Some(2)]))),
-    (Made::ArrayConcat, Array(&[Some(1)]), Nothing, Nothing, Ok(Array(&[Some(1)]))),
-    (Made::ArrayConcat, Array(&[Some(1)]), Null, Nothing, Ok(Null)),
-    (Made::Join, Array(&[Some(1)]), Array(&[Some(2), Some(3)]), Nothing, Ok(Array(&[Some(1), Some(2), Some(3)]))),
+    (
+        Made::ArrayConcat,
+        Array(&[Some(1)]),
+        Array(&[]),
+        Array(&[None, Some(2)]),
+        Ok(Array(&[Some(1), None, Some(2)])),
+    ),
+    (
+        Made::ArrayConcat,
+        Array(&[Some(1)]),
+        Nothing,
+        Nothing,
+        Ok(Array(&[Some(1)])),
+    ),
+    (
+        Made::ArrayConcat,
+        Array(&[Some(1)]),
+        Null,
+        Nothing,
+        Ok(Null),
+    ),
+    (
+        Made::Join,
+        Array(&[Some(1)]),
+        Array(&[Some(2), Some(3)]),
+        Nothing,
+        Ok(Array(&[Some(1), Some(2), Some(3)])),
+    ),
     (Made::Join, Array(&[]), Array(&[]), Nothing, Ok(Array(&[]))),
     (Made::Join, Null, Array(&[]), Nothing, Ok(Null)),
     (Made::Join, Array(&[]), Null, Nothing, Ok(Null)),
@@ -589,14 +956,39 @@ fn answer_of_made(alloc: Global, call: Made, values: &[Value]) -> Result<Value, 
 }
 
 /// The first and the last number, the step, and the array. A step of 1 is tried as one that isn't given, too.
-const GENERATED: [(Option<i64>, Option<i64>, Option<i64>, Result<Given, FaultKind>); 14] = [
-    (Some(1), Some(3), Some(1), Ok(Array(&[Some(1), Some(2), Some(3)]))),
+const GENERATED: [(
+    Option<i64>,
+    Option<i64>,
+    Option<i64>,
+    Result<Given, FaultKind>,
+); 14] = [
+    (
+        Some(1),
+        Some(3),
+        Some(1),
+        Ok(Array(&[Some(1), Some(2), Some(3)])),
+    ),
     (Some(2), Some(2), Some(1), Ok(Array(&[Some(2)]))),
     (Some(3), Some(1), Some(1), Ok(Array(&[]))),
-    (Some(1), Some(6), Some(2), Ok(Array(&[Some(1), Some(3), Some(5)]))),
-    (Some(5), Some(1), Some(-2), Ok(Array(&[Some(5), Some(3), Some(1)]))),
+    (
+        Some(1),
+        Some(6),
+        Some(2),
+        Ok(Array(&[Some(1), Some(3), Some(5)])),
+    ),
+    (
+        Some(5),
+        Some(1),
+        Some(-2),
+        Ok(Array(&[Some(5), Some(3), Some(1)])),
+    ),
     (Some(1), Some(5), Some(-2), Ok(Array(&[]))),
-    (LEAST, GREATEST, GREATEST, Ok(Array(&[LEAST, Some(-1), Some(i64::MAX - 1)]))),
+    (
+        LEAST,
+        GREATEST,
+        GREATEST,
+        Ok(Array(&[LEAST, Some(-1), Some(i64::MAX - 1)])),
+    ),
     (GREATEST, LEAST, LEAST, Ok(Array(&[GREATEST, Some(-1)]))),
     (Some(3), Some(1), Some(0), Err(Argument)),
     (Some(0), Some(1_048_576), Some(1), Err(OutOfRange)),
@@ -644,9 +1036,16 @@ fn int(number: Option<i64>) -> Value
     ensures { fits types.Int64 result ≡ true }
 {
     match number {
-        Some(number) => Value::Int(number),
-        None => Value::Null,
+        Some(number) => some_int(number),
+        None => null_value(),
     }
+}
+
+#[tactic(auto, using(crate::proofs::FitLaws::int_fits))]
+fn some_int(number: i64) -> Value
+    ensures { fits types.Int64 result ≡ true }
+{
+    Value::Int(number)
 }
 
 /// A UINT64.
@@ -654,12 +1053,33 @@ fn uint(number: Option<u64>) -> Value
     ensures { fits types.Uint64 result ≡ true }
 {
     match number {
-        Some(number) => Value::Uint(number),
-        None => Value::Null,
+        Some(number) => some_uint(number),
+        None => null_value(),
     }
 }
 
-fn arguments(alloc: Global, first: Given, second: Given, third: Given) -> Result<Values, AllocError> {
+#[tactic(auto, using(crate::proofs::FitLaws::uint_fits))]
+fn some_uint(number: u64) -> Value
+    ensures { fits types.Uint64 result ≡ true }
+{
+    Value::Uint(number)
+}
+
+/// NULL fits both types.
+#[tactic(auto, using(crate::proofs::FitLaws::null_fits))]
+fn null_value() -> Value
+    ensures int { fits types.Int64 result ≡ true }
+    ensures uint { fits types.Uint64 result ≡ true }
+{
+    Value::Null
+}
+
+fn arguments(
+    alloc: Global,
+    first: Given,
+    second: Given,
+    third: Given,
+) -> Result<Values, AllocError> {
     let mut values = Items::new(alloc);
     for given in [first, second, third] {
         if let Some(value) = value_of(alloc, given)? {
@@ -669,7 +1089,10 @@ fn arguments(alloc: Global, first: Given, second: Given, third: Given) -> Result
     Ok(values)
 }
 
-fn answer(alloc: Global, want: Result<Given, FaultKind>) -> Result<Result<Value, FaultKind>, AllocError> {
+fn answer(
+    alloc: Global,
+    want: Result<Given, FaultKind>,
+) -> Result<Result<Value, FaultKind>, AllocError> {
     match want {
         Ok(given) => Ok(Ok(value_of(alloc, given)?.unwrap_or(Value::Null))),
         Err(fault) => Ok(Err(fault)),

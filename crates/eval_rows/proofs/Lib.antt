@@ -1,0 +1,5 @@
+mod FitLaws
+mod CutLaws
+mod JoinLaws
+mod NoteLaws
+mod SortLaws
