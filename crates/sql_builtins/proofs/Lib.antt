@@ -1,0 +1,4 @@
+pub mod ArrayLaws
+pub mod StepLaws
+pub mod PlaceLaws
+pub mod FittingLaws
