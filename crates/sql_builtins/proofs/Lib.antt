@@ -2,3 +2,4 @@ pub mod ArrayLaws
 pub mod StepLaws
 pub mod PlaceLaws
 pub mod FittingLaws
+pub mod ChoiceLaws

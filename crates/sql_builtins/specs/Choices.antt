@@ -191,7 +191,11 @@ abbrev pub rows_of : List ℕ → List Signature → List Signature
 rows_of name [] = []
 rows_of name (row ∷ rows) = if str_eq_ignore_ascii_case row.name name then row ∷ rows_of name rows else rows_of name rows
 
--- Among the rows of this name that apply, the one with the fewest coercions of arguments that aren't literals, then with the
--- fewest of literals, then the first; or none.
+-- Among the rows of this name in a table that apply, the one with the fewest coercions of arguments that aren't literals, then
+-- with the fewest of literals, then the first; or none.
+unfoldable pub chosen_of : List Signature → List ℕ → List Arg → Option Choice
+chosen_of rows name arguments = option_map (λ a. a.choice) (cheapest (filter_map (applied arguments) (rows_of name rows)))
+
+-- the choice among the rows of the signature table
 unfoldable pub chosen : List ℕ → List Arg → Option Choice
-chosen name arguments = option_map (λ a. a.choice) (cheapest (filter_map (applied arguments) (rows_of name signatures)))
+chosen name arguments = chosen_of signatures name arguments

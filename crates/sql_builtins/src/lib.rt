@@ -14,6 +14,8 @@ mod places;
 pub mod sig;
 pub mod table;
 mod targets;
+#[cfg(test)]
+mod tests;
 
 pub use choice::Choice;
 pub use choosing::choose;
