@@ -1,4 +1,5 @@
 pub mod ArrayLaws
+pub mod DateLaws
 pub mod StepLaws
 pub mod PlaceLaws
 pub mod FittingLaws
