@@ -131,7 +131,7 @@ targets-length common element (s ∷ slots) [] same = absurd (omega arith)
 targets-length common element (s ∷ slots) (a ∷ arguments) same = ap suc (targets-length common element slots arguments (omega arith))
 
 -- a row by its places and open types
-abbrev as_applied : Signature → List Arg → List Slot → SqlType → SqlType → Applied
+abbrev pub as_applied : Signature → List Arg → List Slot → SqlType → SqlType → Applied
 as_applied row arguments slots common element = record {
   choice = record { sig = row.sig; targets = target_types common element slots arguments; gives = slot_type common element ty.Int64 row.gives };
   cost = cost_of arguments (target_types common element slots arguments);

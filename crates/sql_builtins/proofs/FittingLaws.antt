@@ -20,7 +20,7 @@ use Rattle.sql_builtins.proofs.PlaceLaws.{some-same}
 
 -- ---- what holds of each row
 
-abbrev Each : (Signature → Type 0) → List Signature → Type 0
+abbrev pub Each : (Signature → Type 0) → List Signature → Type 0
 Each P [] = Unit {0}
 Each P (row ∷ rows) = P row × Each P rows
 
@@ -29,7 +29,7 @@ each-at P [] k row within is each = absurd (omega arith)
 each-at P (first ∷ rows) zero row within is each = subst P is each.0
 each-at P (first ∷ rows) (suc k) row within is each = each-at P rows k row (omega arith) is each.1
 
-each-listed : (P : Signature → Type 0) (rows : List Signature) (row : Signature) → Each P rows → Contains rows row → P row
+pub each-listed : (P : Signature → Type 0) (rows : List Signature) (row : Signature) → Each P rows → Contains rows row → P row
 each-listed P rows row each listed = each-at P rows listed.0 row listed.1 listed.2 each
 
 abbrev AsksOf : Signature → Type 0

@@ -14,9 +14,10 @@ use sql_strings::{array_to_string_array_string_string, byte_length_bytes, byte_l
 use sql_types::{CallFault, FaultKind, SqlType, Value};
 use std::alloc::Global;
 
-/// The value of a call of a row at values that fit it; `gives` is the type that the row gives for them, which the value
-/// fits. A fault is the one that the row names for the values: each function's own call says which. A call with a NULL
-/// argument is NULL unless its row says otherwise. Rows of calls with a lambda are none of these.
+/// The value of a call of a row at values that fit it, where `gives` is the type that the row gives for them. A fault is
+/// the one that the row names for the values: each function's own call says which. A call with a NULL argument is NULL unless
+/// its row says otherwise, and so is one of a part of dates that no part is called. Calls with a lambda have no such row. It
+/// takes the time of the function's own call.
 pub fn apply(
     alloc: Global,
     sig: SigId,

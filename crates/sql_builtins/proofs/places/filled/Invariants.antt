@@ -3,12 +3,12 @@ use Rattle.std.proofs.Common.{◌≡◌, ◌≤◌, ◌-◌, ◌++◌, length, v
 use Rattle.std.specs.Prelude.{replicate}
 use Rattle.sql_builtins.proofs.places.filled.Given as goal
 
-abbrev pub invariant-loop-places : goal.invariant-loop-places
-invariant-loop-places l = record {
+abbrev pub invariant-loop-last : goal.invariant-loop-last
+invariant-loop-last l = record {
   least : length l.slots ≤ vec_len l.places;
   most : vec_len l.places ≤ l.count;
   same : l.places.items ≡ l.slots ++ replicate (vec_len l.places - length l.slots) l.last;
 }
 
-abbrev pub decreases-loop-places : goal.decreases-loop-places
-decreases-loop-places l = l.count - vec_len l.places
+abbrev pub decreases-loop-last : goal.decreases-loop-last
+decreases-loop-last l = l.count - vec_len l.places
