@@ -31,7 +31,7 @@ right-false : (a b : Bool) → b ≡ false → (a && b) ≡ false
 right-false true b is = is
 right-false false b is = refl
 
-both-true : (a b : Bool) → a ≡ true → b ≡ true → (a && b) ≡ true
+pub both-true : (a b : Bool) → a ≡ true → b ≡ true → (a && b) ≡ true
 both-true true b one two = two
 both-true false b one two = one
 

@@ -27,6 +27,10 @@ pub chosen-whole : (rows : List Signature) (name : List ℕ) (arguments : List A
 unfolding chosen
 chosen-whole rows name arguments is = ap (λ r. chosen_of r name arguments) is
 
+pub choice-chosen : (rows : List Signature) (name named : List ℕ) (arguments : List Arg) (best o : Option Applied) → rows ≡ signatures → name ≡ named → best ≡ cheapest (filter_map (applied arguments) (rows_of name rows)) → best ≡ o → option_map (λ a. a.choice) o ≡ chosen named arguments
+choice-chosen rows name named arguments best o whole same from is =
+    sym (ap (option_map (λ (a : Applied). a.choice)) is) ∙ best-chosen rows name arguments best from ∙ chosen-whole rows name arguments whole ∙ ap (λ (n : List ℕ). chosen n arguments) same
+
 -- in each row of the table the open types stand at the end
 pub rows-end : (rows : List Signature) → rows ≡ signatures → list_all (λ row. ends_open row.takes) rows ≡ true
 rows-end rows is = ap (list_all (λ (row : Signature). ends_open row.takes)) is

@@ -7,3 +7,5 @@ pub mod FittingLaws
 pub mod RowLaws
 pub mod ChoiceLaws
 pub mod BetterLaws
+pub mod EndLaws
+pub mod RowSteps

@@ -24,7 +24,7 @@ pub(crate) struct Applied {
 
 impl Model for Applied {
     ghost use Rattle.std.specs.Coded.{codes};
-    ghost use Rattle.sql_builtins.specs.contracts.choice.Choice as choice;
+    ghost use Rattle.sql_builtins.specs.contracts.choice.Choice as chosen;
     ghost use Rattle.sql_builtins.specs.contracts.costs.Cost as costs;
     ghost use Rattle.sql_builtins.specs.Choices as choices;
 
@@ -32,7 +32,7 @@ impl Model for Applied {
 
     ghost view = { λ a. record { choice = a.choice; cost = a.cost } };
 
-    ghost coded = { Prim.hlevel (codes, choice.the_row.coded, costs.the_row.coded) };
+    ghost coded = { Prim.hlevel (codes, chosen.the_row.coded, costs.the_row.coded) };
 }
 
 /// The row as it applies to the arguments, where it does and is better than the best so far.
