@@ -80,3 +80,10 @@ pub typed_array : (from e : SqlType) (k : Kind) → (k ≡ kind.Untyped → ⊥)
 typed_array from e k not =
     ap (λ (b : Bool). cond b (Some (charged from k (ty.Array e))) None) (typed_coerces from e k not)
     ∙ by_layer (out-SqlType from) e (charged from k (ty.Array e)) (λ is. typed_charge from e k (same from e ∙ is))
+
+pub untyped_argument : (own : Option SqlType) (k : Kind) (from e : SqlType) → own ≡ Some from → k ≡ kind.Untyped → Some Free ≡ coercion_by own k (ty.Array e)
+untyped_argument own k from e has is =
+    sym (ap (λ (o : Option SqlType). coercion_by o k (ty.Array e)) has ∙ ap (λ (j : Kind). coercion_by (Some from) j (ty.Array e)) is ∙ untyped_array from e)
+
+pub typed_argument : (own : Option SqlType) (k : Kind) (from e : SqlType) → own ≡ Some from → (k ≡ kind.Untyped → ⊥) → array_coercion (out-SqlType from) e ≡ coercion_by own k (ty.Array e)
+typed_argument own k from e has not = sym (ap (λ (o : Option SqlType). coercion_by o k (ty.Array e)) has ∙ typed_array from e k not)

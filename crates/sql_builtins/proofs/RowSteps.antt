@@ -18,9 +18,10 @@ first-of rows i d within = ap (map seen) (drop-cons rows i d within) ∙ ap (λ 
 abbrev ends : List Signature → Bool
 ends rows = list_all (λ row. ends_open row.takes) rows
 
-pub ends-behind : (rows : List Row) (i : ℕ) (d : Row) → i < length rows → list_all (λ row. ends_open row.takes) (map seen (drop i rows)) ≡ true → list_all (λ row. ends_open row.takes) (map seen (drop (i + 1) rows)) ≡ true
-ends-behind rows i d within each =
-    and-right (ends_open (seen (get_or rows i d)).takes) (ends (map seen (drop (i + 1) rows))) (sym (ap ends (first-of rows i d within)) ∙ each)
+pub ends-behind : (rows : List Row) (i : ℕ) → i < length rows → list_all (λ row. ends_open row.takes) (map seen (drop i rows)) ≡ true → list_all (λ row. ends_open row.takes) (map seen (drop (i + 1) rows)) ≡ true
+ends-behind [] i within each = absurd (omega arith)
+ends-behind (row ∷ rows) i within each =
+    and-right (ends_open (seen (get_or (row ∷ rows) i row)).takes) (ends (map seen (drop (i + 1) (row ∷ rows)))) (sym (ap ends (first-of (row ∷ rows) i row within)) ∙ each)
 
 pub named-behind : (rows : List Row) (i : ℕ) (d : Row) (name : List ℕ) (arguments : List Arg) (best better after all : Option Applied) → i < length rows → str_eq_ignore_ascii_case (seen (get_or rows i d)).name name ≡ true → better ≡ better_than best (applied arguments (seen (get_or rows i d))) → after ≡ best_after best better → cheapest_behind best (filter_map (applied arguments) (rows_of name (map seen (drop i rows)))) ≡ all → cheapest_behind after (filter_map (applied arguments) (rows_of name (map seen (drop (i + 1) rows)))) ≡ all
 named-behind rows i d name arguments best better after all within named is next same =
