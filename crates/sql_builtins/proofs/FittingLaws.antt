@@ -107,113 +107,322 @@ repeated s t values common element owns slots is placed fit = repeated-fit (nat_
 -- ---- the table
 
 each_row : Each AsksOf signatures
-each_row =
-    (exact (slot.Int64 ∷ slot.Int64 ∷ []),
-    (exact (slot.Uint64 ∷ slot.Uint64 ∷ []),
-    (exact (slot.Int64 ∷ slot.Int64 ∷ []),
-    (exact (slot.Uint64 ∷ slot.Uint64 ∷ []),
-    (exact (slot.Int64 ∷ slot.Int64 ∷ []),
-    (exact (slot.Uint64 ∷ slot.Uint64 ∷ []),
-    (exact (slot.Int64 ∷ []),
-    (exact (slot.Int64 ∷ []),
-    (exact (slot.Uint64 ∷ []),
-    (exact (slot.Int64 ∷ []),
-    (exact (slot.Uint64 ∷ []),
-    (exact (slot.Int64 ∷ slot.Int64 ∷ []),
-    (exact (slot.Uint64 ∷ slot.Uint64 ∷ []),
-    (exact (slot.Int64 ∷ slot.Int64 ∷ []),
-    (exact (slot.Uint64 ∷ slot.Uint64 ∷ []),
-    (exact (slot.Int64 ∷ slot.Int64 ∷ []),
-    (exact (slot.Uint64 ∷ slot.Uint64 ∷ []),
-    (exact (slot.Int64 ∷ slot.Int64 ∷ []),
-    (exact (slot.Uint64 ∷ slot.Int64 ∷ []),
-    (exact (slot.Int64 ∷ slot.Int64 ∷ []),
-    (exact (slot.Uint64 ∷ slot.Int64 ∷ []),
-    (exact (slot.String ∷ slot.String ∷ []),
-    (exact (slot.Bytes ∷ slot.Bytes ∷ []),
-    ((λ values common element owns slots placed fit. tt),
-    ((λ values common element owns slots placed fit. tt),
-    ((λ values common element owns slots placed fit. tt),
-    ((λ values common element owns slots placed fit. tt),
-    ((λ values common element owns slots placed fit. tt),
-    ((λ values common element owns slots placed fit. tt),
-    ((λ values common element owns slots placed fit. tt),
-    (exact (slot.String ∷ slot.String ∷ []),
-    (exact (slot.Bytes ∷ slot.Bytes ∷ []),
-    ((λ values common element owns slots placed fit. tt),
-    ((λ values common element owns slots placed fit. tt),
-    ((λ values common element owns slots placed fit. tt),
-    ((λ values common element owns slots placed fit. tt),
-    ((λ values common element owns slots placed fit. tt),
-    ((λ values common element owns slots placed fit. tt),
-    ((λ values common element owns slots placed fit. tt),
-    ((λ values common element owns slots placed fit. tt),
-    ((λ values common element owns slots placed fit. tt),
-    ((λ values common element owns slots placed fit. tt),
-    ((λ values common element owns slots placed fit. tt),
-    ((λ values common element owns slots placed fit. tt),
-    ((λ values common element owns slots placed fit. tt),
-    ((λ values common element owns slots placed fit. tt),
-    ((λ values common element owns slots placed fit. tt),
-    ((λ values common element owns slots placed fit. tt),
-    (exact (slot.Int64 ∷ []),
-    (exact (slot.Int64 ∷ []),
-    (exact (slot.Int64 ∷ slot.Int64 ∷ []),
-    (exact (slot.Uint64 ∷ slot.Uint64 ∷ []),
-    (exact (slot.Int64 ∷ slot.Int64 ∷ []),
-    (exact (slot.Uint64 ∷ slot.Uint64 ∷ []),
-    ((λ values common element owns slots placed fit. tt),
-    ((λ values common element owns slots placed fit. tt),
-    (exact (slot.Int64 ∷ slot.Int64 ∷ []),
-    (exact (slot.Uint64 ∷ slot.Uint64 ∷ []),
-    (exact (slot.Int64 ∷ slot.Int64 ∷ []),
-    (exact (slot.Uint64 ∷ slot.Uint64 ∷ []),
-    (exact (slot.Int64 ∷ slot.Int64 ∷ []),
-    (exact (slot.Uint64 ∷ slot.Uint64 ∷ []),
-    (exact (slot.String ∷ []),
-    (exact (slot.Bytes ∷ []),
-    (exact (slot.String ∷ []),
-    (exact (slot.Bytes ∷ []),
-    (exact (slot.String ∷ []),
-    ((λ values common element owns slots. repeated slot.String ty.Text values common element owns slots (λ own. refl)),
-    ((λ values common element owns slots. repeated slot.Bytes ty.Bytes values common element owns slots (λ own. refl)),
-    (optional-three slot.String slot.Int64 slot.Int64,
-    (optional-three slot.Bytes slot.Int64 slot.Int64,
-    (exact (slot.String ∷ slot.String ∷ []),
-    (exact (slot.Bytes ∷ slot.Bytes ∷ []),
-    (exact (slot.String ∷ slot.String ∷ []),
-    (exact (slot.Bytes ∷ slot.Bytes ∷ []),
-    (exact (slot.String ∷ slot.String ∷ []),
-    (exact (slot.Bytes ∷ slot.Bytes ∷ []),
-    (exact (slot.String ∷ slot.String ∷ slot.String ∷ []),
-    (exact (slot.Bytes ∷ slot.Bytes ∷ slot.Bytes ∷ []),
-    (exact (slot.String ∷ slot.Int64 ∷ []),
-    (exact (slot.Bytes ∷ slot.Int64 ∷ []),
-    (exact (slot.String ∷ []),
-    (exact (slot.Bytes ∷ []),
-    (optional-two slot.String slot.String,
-    (optional-two slot.String slot.String,
-    (optional-two slot.String slot.String,
-    (exact (slot.String ∷ slot.String ∷ []),
-    (exact (slot.Bytes ∷ []),
-    (exact (slot.String ∷ []),
-    ((λ values common element owns slots placed fit. tt),
-    ((λ values common element owns slots placed fit. tt),
-    ((λ values common element owns slots placed fit. tt),
-    ((λ values common element owns slots placed fit. tt),
-    ((λ values common element owns slots placed fit. tt),
-    (optional-three slot.Texts slot.String slot.String,
-    ((λ values common element owns slots placed fit. tt),
-    (optional-three slot.Int64 slot.Int64 slot.Int64,
-    (exact (slot.Int64 ∷ slot.Int64 ∷ slot.Int64 ∷ []),
-    (exact (slot.Date ∷ slot.Int64 ∷ slot.String ∷ []),
-    (exact (slot.Date ∷ slot.Int64 ∷ slot.String ∷ []),
-    (exact (slot.Date ∷ slot.Date ∷ slot.String ∷ []),
-    (exact (slot.Date ∷ slot.String ∷ []),
-    (exact (slot.String ∷ slot.Date ∷ []),
-    (exact (slot.Date ∷ []),
-    (exact (slot.Int64 ∷ []),
-    tt)))))))))))))))))))))))))))))))))))))))))))))))))))))))))))))))))))))))))))))))))))))))))))))))))))))))))
+each_row = (
+  exact (slot.Int64 ∷ slot.Int64 ∷ []),
+  (
+    exact (slot.Uint64 ∷ slot.Uint64 ∷ []),
+    (
+      exact (slot.Int64 ∷ slot.Int64 ∷ []),
+      (
+        exact (slot.Uint64 ∷ slot.Uint64 ∷ []),
+        (
+          exact (slot.Int64 ∷ slot.Int64 ∷ []),
+          (
+            exact (slot.Uint64 ∷ slot.Uint64 ∷ []),
+            (
+              exact (slot.Int64 ∷ []),
+              (
+                exact (slot.Int64 ∷ []),
+                (
+                  exact (slot.Uint64 ∷ []),
+                  (
+                    exact (slot.Int64 ∷ []),
+                    (
+                      exact (slot.Uint64 ∷ []),
+                      (
+                        exact (slot.Int64 ∷ slot.Int64 ∷ []),
+                        (
+                          exact (slot.Uint64 ∷ slot.Uint64 ∷ []),
+                          (
+                            exact (slot.Int64 ∷ slot.Int64 ∷ []),
+                            (
+                              exact (slot.Uint64 ∷ slot.Uint64 ∷ []),
+                              (
+                                exact (slot.Int64 ∷ slot.Int64 ∷ []),
+                                (
+                                  exact (slot.Uint64 ∷ slot.Uint64 ∷ []),
+                                  (
+                                    exact (slot.Int64 ∷ slot.Int64 ∷ []),
+                                    (
+                                      exact (slot.Uint64 ∷ slot.Int64 ∷ []),
+                                      (
+                                        exact (slot.Int64 ∷ slot.Int64 ∷ []),
+                                        (
+                                          exact (slot.Uint64 ∷ slot.Int64 ∷ []),
+                                          (
+                                            exact (slot.String ∷ slot.String ∷ []),
+                                            (
+                                              exact (slot.Bytes ∷ slot.Bytes ∷ []),
+                                              (
+                                                (λ values common element owns slots placed fit. tt),
+                                                (
+                                                  (λ values common element owns slots placed fit. tt),
+                                                  (
+                                                    (λ values common element owns slots placed fit. tt),
+                                                    (
+                                                      (λ values common element owns slots placed fit. tt),
+                                                      (
+                                                        (λ values common element owns slots placed fit. tt),
+                                                        (
+                                                          (λ values common element owns slots placed fit. tt),
+                                                          (
+                                                            (λ values common element owns slots placed fit. tt),
+                                                            (
+                                                              exact (slot.String ∷ slot.String ∷ []),
+                                                              (
+                                                                exact (slot.Bytes ∷ slot.Bytes ∷ []),
+                                                                (
+                                                                  (λ values common element owns slots placed fit. tt),
+                                                                  (
+                                                                    (λ values common element owns slots placed fit. tt),
+                                                                    (
+                                                                      (λ values common element owns slots placed fit. tt),
+                                                                      (
+                                                                        (λ values common element owns slots placed fit. tt),
+                                                                        (
+                                                                          (λ values common element owns slots placed fit. tt),
+                                                                          (
+                                                                            (λ values common element owns slots placed fit. tt),
+                                                                            (
+                                                                              (λ values common element owns slots placed fit. tt),
+                                                                              (
+                                                                                (λ values common element owns slots placed fit. tt),
+                                                                                (
+                                                                                  (λ values common element owns slots placed fit. tt),
+                                                                                  (
+                                                                                    (λ values common element owns slots placed fit. tt),
+                                                                                    (
+                                                                                      (λ values common element owns slots placed fit. tt),
+                                                                                      (
+                                                                                        (λ values common element owns slots placed fit. tt),
+                                                                                        (
+                                                                                          (λ values common element owns slots placed fit. tt),
+                                                                                          (
+                                                                                            (λ values common element owns slots placed fit. tt),
+                                                                                            (
+                                                                                              (λ values common element owns slots placed fit. tt),
+                                                                                              (
+                                                                                                (λ values common element owns slots placed fit. tt),
+                                                                                                (
+                                                                                                  exact (slot.Int64 ∷ []),
+                                                                                                  (
+                                                                                                    exact (slot.Int64 ∷ []),
+                                                                                                    (
+                                                                                                      exact (slot.Int64 ∷ slot.Int64 ∷ []),
+                                                                                                      (
+                                                                                                        exact (slot.Uint64 ∷ slot.Uint64 ∷ []),
+                                                                                                        (
+                                                                                                          exact (slot.Int64 ∷ slot.Int64 ∷ []),
+                                                                                                          (
+                                                                                                            exact (slot.Uint64 ∷ slot.Uint64 ∷ []),
+                                                                                                            (
+                                                                                                              (λ values common element owns slots placed fit. tt),
+                                                                                                              (
+                                                                                                                (λ values common element owns slots placed fit. tt),
+                                                                                                                (
+                                                                                                                  exact (slot.Int64 ∷ slot.Int64 ∷ []),
+                                                                                                                  (
+                                                                                                                    exact (slot.Uint64 ∷ slot.Uint64 ∷ []),
+                                                                                                                    (
+                                                                                                                      exact (slot.Int64 ∷ slot.Int64 ∷ []),
+                                                                                                                      (
+                                                                                                                        exact (slot.Uint64 ∷ slot.Uint64 ∷ []),
+                                                                                                                        (
+                                                                                                                          exact (slot.Int64 ∷ slot.Int64 ∷ []),
+                                                                                                                          (
+                                                                                                                            exact (slot.Uint64 ∷ slot.Uint64 ∷ []),
+                                                                                                                            (
+                                                                                                                              exact (slot.String ∷ []),
+                                                                                                                              (
+                                                                                                                                exact (slot.Bytes ∷ []),
+                                                                                                                                (
+                                                                                                                                  exact (slot.String ∷ []),
+                                                                                                                                  (
+                                                                                                                                    exact (slot.Bytes ∷ []),
+                                                                                                                                    (
+                                                                                                                                      exact (slot.String ∷ []),
+                                                                                                                                      (
+                                                                                                                                        (λ values common element owns slots. repeated slot.String ty.Text values common element owns slots (λ own. refl)),
+                                                                                                                                        (
+                                                                                                                                          (λ values common element owns slots. repeated slot.Bytes ty.Bytes values common element owns slots (λ own. refl)),
+                                                                                                                                          (
+                                                                                                                                            optional-three slot.String slot.Int64 slot.Int64,
+                                                                                                                                            (
+                                                                                                                                              optional-three slot.Bytes slot.Int64 slot.Int64,
+                                                                                                                                              (
+                                                                                                                                                exact (slot.String ∷ slot.String ∷ []),
+                                                                                                                                                (
+                                                                                                                                                  exact (slot.Bytes ∷ slot.Bytes ∷ []),
+                                                                                                                                                  (
+                                                                                                                                                    exact (slot.String ∷ slot.String ∷ []),
+                                                                                                                                                    (
+                                                                                                                                                      exact (slot.Bytes ∷ slot.Bytes ∷ []),
+                                                                                                                                                      (
+                                                                                                                                                        exact (slot.String ∷ slot.String ∷ []),
+                                                                                                                                                        (
+                                                                                                                                                          exact (slot.Bytes ∷ slot.Bytes ∷ []),
+                                                                                                                                                          (
+                                                                                                                                                            exact (slot.String ∷ slot.String ∷ slot.String ∷ []),
+                                                                                                                                                            (
+                                                                                                                                                              exact (slot.Bytes ∷ slot.Bytes ∷ slot.Bytes ∷ []),
+                                                                                                                                                              (
+                                                                                                                                                                exact (slot.String ∷ slot.Int64 ∷ []),
+                                                                                                                                                                (
+                                                                                                                                                                  exact (slot.Bytes ∷ slot.Int64 ∷ []),
+                                                                                                                                                                  (
+                                                                                                                                                                    exact (slot.String ∷ []),
+                                                                                                                                                                    (
+                                                                                                                                                                      exact (slot.Bytes ∷ []),
+                                                                                                                                                                      (
+                                                                                                                                                                        optional-two slot.String slot.String,
+                                                                                                                                                                        (
+                                                                                                                                                                          optional-two slot.String slot.String,
+                                                                                                                                                                          (
+                                                                                                                                                                            optional-two slot.String slot.String,
+                                                                                                                                                                            (
+                                                                                                                                                                              exact (slot.String ∷ slot.String ∷ []),
+                                                                                                                                                                              (
+                                                                                                                                                                                exact (slot.Bytes ∷ []),
+                                                                                                                                                                                (
+                                                                                                                                                                                  exact (slot.String ∷ []),
+                                                                                                                                                                                  (
+                                                                                                                                                                                    (λ values common element owns slots placed fit. tt),
+                                                                                                                                                                                    (
+                                                                                                                                                                                      (λ values common element owns slots placed fit. tt),
+                                                                                                                                                                                      (
+                                                                                                                                                                                        (λ values common element owns slots placed fit. tt),
+                                                                                                                                                                                        (
+                                                                                                                                                                                          (λ values common element owns slots placed fit. tt),
+                                                                                                                                                                                          (
+                                                                                                                                                                                            (λ values common element owns slots placed fit. tt),
+                                                                                                                                                                                            (
+                                                                                                                                                                                              optional-three slot.Texts slot.String slot.String,
+                                                                                                                                                                                              (
+                                                                                                                                                                                                (λ values common element owns slots placed fit. tt),
+                                                                                                                                                                                                (
+                                                                                                                                                                                                  optional-three slot.Int64 slot.Int64 slot.Int64,
+                                                                                                                                                                                                  (
+                                                                                                                                                                                                    exact (slot.Int64 ∷ slot.Int64 ∷ slot.Int64 ∷ []),
+                                                                                                                                                                                                    (
+                                                                                                                                                                                                      exact (slot.Date ∷ slot.Int64 ∷ slot.String ∷ []),
+                                                                                                                                                                                                      (
+                                                                                                                                                                                                        exact (slot.Date ∷ slot.Int64 ∷ slot.String ∷ []),
+                                                                                                                                                                                                        (
+                                                                                                                                                                                                          exact (slot.Date ∷ slot.Date ∷ slot.String ∷ []),
+                                                                                                                                                                                                          (
+                                                                                                                                                                                                            exact (slot.Date ∷ slot.String ∷ []),
+                                                                                                                                                                                                            (
+                                                                                                                                                                                                              exact (slot.String ∷ slot.Date ∷ []),
+                                                                                                                                                                                                              (
+                                                                                                                                                                                                                exact (slot.Date ∷ []),
+                                                                                                                                                                                                                (
+                                                                                                                                                                                                                  exact (slot.Int64 ∷ []),
+                                                                                                                                                                                                                  tt,
+                                                                                                                                                                                                                ),
+                                                                                                                                                                                                              ),
+                                                                                                                                                                                                            ),
+                                                                                                                                                                                                          ),
+                                                                                                                                                                                                        ),
+                                                                                                                                                                                                      ),
+                                                                                                                                                                                                    ),
+                                                                                                                                                                                                  ),
+                                                                                                                                                                                                ),
+                                                                                                                                                                                              ),
+                                                                                                                                                                                            ),
+                                                                                                                                                                                          ),
+                                                                                                                                                                                        ),
+                                                                                                                                                                                      ),
+                                                                                                                                                                                    ),
+                                                                                                                                                                                  ),
+                                                                                                                                                                                ),
+                                                                                                                                                                              ),
+                                                                                                                                                                            ),
+                                                                                                                                                                          ),
+                                                                                                                                                                        ),
+                                                                                                                                                                      ),
+                                                                                                                                                                    ),
+                                                                                                                                                                  ),
+                                                                                                                                                                ),
+                                                                                                                                                              ),
+                                                                                                                                                            ),
+                                                                                                                                                          ),
+                                                                                                                                                        ),
+                                                                                                                                                      ),
+                                                                                                                                                    ),
+                                                                                                                                                  ),
+                                                                                                                                                ),
+                                                                                                                                              ),
+                                                                                                                                            ),
+                                                                                                                                          ),
+                                                                                                                                        ),
+                                                                                                                                      ),
+                                                                                                                                    ),
+                                                                                                                                  ),
+                                                                                                                                ),
+                                                                                                                              ),
+                                                                                                                            ),
+                                                                                                                          ),
+                                                                                                                        ),
+                                                                                                                      ),
+                                                                                                                    ),
+                                                                                                                  ),
+                                                                                                                ),
+                                                                                                              ),
+                                                                                                            ),
+                                                                                                          ),
+                                                                                                        ),
+                                                                                                      ),
+                                                                                                    ),
+                                                                                                  ),
+                                                                                                ),
+                                                                                              ),
+                                                                                            ),
+                                                                                          ),
+                                                                                        ),
+                                                                                      ),
+                                                                                    ),
+                                                                                  ),
+                                                                                ),
+                                                                              ),
+                                                                            ),
+                                                                          ),
+                                                                        ),
+                                                                      ),
+                                                                    ),
+                                                                  ),
+                                                                ),
+                                                              ),
+                                                            ),
+                                                          ),
+                                                        ),
+                                                      ),
+                                                    ),
+                                                  ),
+                                                ),
+                                              ),
+                                            ),
+                                          ),
+                                        ),
+                                      ),
+                                    ),
+                                  ),
+                                ),
+                              ),
+                            ),
+                          ),
+                        ),
+                      ),
+                    ),
+                  ),
+                ),
+              ),
+            ),
+          ),
+        ),
+      ),
+    ),
+  ),
+)
 
 pub asks : (sig : SigId) (gives : SqlType) (values : List Value) → Fitting sig gives values → Asks sig values
 asks sig gives values f =

@@ -98,7 +98,11 @@ fn better_by(
             }
             let targets = target_types(alloc, slots, arguments, common, element)?;
             let gives = slot_type(alloc, row.gives, &None, common, element)?;
-            let choice = Choice { sig: row.sig, targets, gives };
+            let choice = Choice {
+                sig: row.sig,
+                targets,
+                gives,
+            };
             Ok(Some(Applied { choice, cost }))
         }
         None => Ok(None),

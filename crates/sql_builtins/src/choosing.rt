@@ -18,11 +18,7 @@ use std::alloc::{AllocError, Global};
 /// exactly where no row applies. An operator's name is its sign or its words. It takes time in proportion to the
 /// rows of the name times the size of the arguments' types, and copies no types but those of a row that is better than the
 /// ones before it.
-pub fn choose(
-    alloc: Global,
-    name: &Text,
-    arguments: &[Arg],
-) -> Result<Option<Choice>, OutOfMemory>
+pub fn choose(alloc: Global, name: &Text, arguments: &[Arg]) -> Result<Option<Choice>, OutOfMemory>
     ensures { IfOk result (λ answer. answer ≡ choices.chosen name.now arguments.now) }
 {
     match best_row(alloc, rows(), name.as_bytes(), arguments)? {

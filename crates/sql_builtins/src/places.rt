@@ -71,12 +71,7 @@ fn repeated_places(
 }
 
 /// The slots, and then one of them again and again up to this length.
-fn filled(
-    alloc: Global,
-    slots: &[Slot],
-    last: Slot,
-    count: usize,
-) -> Result<Vec<Slot>, AllocError>
+fn filled(alloc: Global, slots: &[Slot], last: Slot, count: usize) -> Result<Vec<Slot>, AllocError>
     requires { length slots.now ≤ count }
     ensures { IfOk result (λ places. places.items ≡ slots.now ++ replicate (count - length slots.now) last) }
 {

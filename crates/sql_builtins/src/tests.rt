@@ -59,7 +59,11 @@ const ROWS: [(&str, &[Given], SigId); 105] = [
     ("<<", &[Given::Int64, Given::Int64], SigId::ShiftLeftInt64),
     ("<<", &[Given::Uint64, Given::Int64], SigId::ShiftLeftUint64),
     (">>", &[Given::Int64, Given::Int64], SigId::ShiftRightInt64),
-    (">>", &[Given::Uint64, Given::Int64], SigId::ShiftRightUint64),
+    (
+        ">>",
+        &[Given::Uint64, Given::Int64],
+        SigId::ShiftRightUint64,
+    ),
     ("||", &[Given::Text, Given::Text], SigId::JoinString),
     ("||", &[Given::Bytes, Given::Bytes], SigId::JoinBytes),
     ("||", &[Given::Texts, Given::Empty], SigId::JoinArray),
@@ -74,14 +78,26 @@ const ROWS: [(&str, &[Given], SigId); 105] = [
     ("NOT", &[Given::Bool], SigId::Not),
     ("AND", &[Given::Bool, Given::Bool], SigId::And),
     ("OR", &[Given::Bool, Given::Bool], SigId::Or),
-    ("BETWEEN", &[Given::Int64, Given::Int64, Given::Null], SigId::Between),
+    (
+        "BETWEEN",
+        &[Given::Int64, Given::Int64, Given::Null],
+        SigId::Between,
+    ),
     ("IS NULL", &[Given::Texts], SigId::IsNull),
     ("IS TRUE", &[Given::Bool], SigId::IsTrue),
     ("IS FALSE", &[Given::Bool], SigId::IsFalse),
-    ("IS DISTINCT FROM", &[Given::Bytes, Given::Bytes], SigId::IsDistinct),
+    (
+        "IS DISTINCT FROM",
+        &[Given::Bytes, Given::Bytes],
+        SigId::IsDistinct,
+    ),
     ("IF", &[Given::Bool, Given::Text, Given::Text], SigId::If),
     ("IFNULL", &[Given::Texts, Given::Null], SigId::IfNull),
-    ("COALESCE", &[Given::Null, Given::Null, Given::Date], SigId::Coalesce),
+    (
+        "COALESCE",
+        &[Given::Null, Given::Null, Given::Date],
+        SigId::Coalesce,
+    ),
     ("NULLIF", &[Given::Text, Given::Text], SigId::NullIf),
     ("ERROR", &[Given::Text], SigId::Error),
     ("IFERROR", &[Given::Text, Given::Text], SigId::IfError),
@@ -93,31 +109,91 @@ const ROWS: [(&str, &[Given], SigId); 105] = [
     ("DIV", &[Given::Uint64, Given::Uint64], SigId::DivUint64),
     ("MOD", &[Given::Int64, Given::Int64], SigId::ModInt64),
     ("MOD", &[Given::Uint64, Given::Uint64], SigId::ModUint64),
-    ("GREATEST", &[Given::Text, Given::Text, Given::Text], SigId::Greatest),
+    (
+        "GREATEST",
+        &[Given::Text, Given::Text, Given::Text],
+        SigId::Greatest,
+    ),
     ("LEAST", &[Given::Date], SigId::Least),
-    ("SAFE_ADD", &[Given::Int64, Given::Int64], SigId::SafeAddInt64),
-    ("SAFE_ADD", &[Given::Uint64, Given::Uint64], SigId::SafeAddUint64),
-    ("SAFE_SUBTRACT", &[Given::Int64, Given::Int64], SigId::SafeSubtractInt64),
-    ("SAFE_SUBTRACT", &[Given::Uint64, Given::Uint64], SigId::SafeSubtractUint64),
-    ("SAFE_MULTIPLY", &[Given::Int64, Given::Int64], SigId::SafeMultiplyInt64),
-    ("SAFE_MULTIPLY", &[Given::Uint64, Given::Uint64], SigId::SafeMultiplyUint64),
+    (
+        "SAFE_ADD",
+        &[Given::Int64, Given::Int64],
+        SigId::SafeAddInt64,
+    ),
+    (
+        "SAFE_ADD",
+        &[Given::Uint64, Given::Uint64],
+        SigId::SafeAddUint64,
+    ),
+    (
+        "SAFE_SUBTRACT",
+        &[Given::Int64, Given::Int64],
+        SigId::SafeSubtractInt64,
+    ),
+    (
+        "SAFE_SUBTRACT",
+        &[Given::Uint64, Given::Uint64],
+        SigId::SafeSubtractUint64,
+    ),
+    (
+        "SAFE_MULTIPLY",
+        &[Given::Int64, Given::Int64],
+        SigId::SafeMultiplyInt64,
+    ),
+    (
+        "SAFE_MULTIPLY",
+        &[Given::Uint64, Given::Uint64],
+        SigId::SafeMultiplyUint64,
+    ),
     ("LENGTH", &[Given::Text], SigId::LengthString),
     ("LENGTH", &[Given::Bytes], SigId::LengthBytes),
     ("BYTE_LENGTH", &[Given::Text], SigId::ByteLengthString),
     ("BYTE_LENGTH", &[Given::Bytes], SigId::ByteLengthBytes),
     ("CHAR_LENGTH", &[Given::Text], SigId::CharLength),
-    ("CONCAT", &[Given::Text, Given::Text, Given::Text], SigId::ConcatString),
+    (
+        "CONCAT",
+        &[Given::Text, Given::Text, Given::Text],
+        SigId::ConcatString,
+    ),
     ("CONCAT", &[Given::Bytes], SigId::ConcatBytes),
     ("SUBSTR", &[Given::Text, Given::Int64], SigId::SubstrString),
-    ("SUBSTR", &[Given::Bytes, Given::Int64, Given::Int64], SigId::SubstrBytes),
-    ("STARTS_WITH", &[Given::Text, Given::Text], SigId::StartsWithString),
-    ("STARTS_WITH", &[Given::Bytes, Given::Bytes], SigId::StartsWithBytes),
-    ("ENDS_WITH", &[Given::Text, Given::Text], SigId::EndsWithString),
-    ("ENDS_WITH", &[Given::Bytes, Given::Bytes], SigId::EndsWithBytes),
+    (
+        "SUBSTR",
+        &[Given::Bytes, Given::Int64, Given::Int64],
+        SigId::SubstrBytes,
+    ),
+    (
+        "STARTS_WITH",
+        &[Given::Text, Given::Text],
+        SigId::StartsWithString,
+    ),
+    (
+        "STARTS_WITH",
+        &[Given::Bytes, Given::Bytes],
+        SigId::StartsWithBytes,
+    ),
+    (
+        "ENDS_WITH",
+        &[Given::Text, Given::Text],
+        SigId::EndsWithString,
+    ),
+    (
+        "ENDS_WITH",
+        &[Given::Bytes, Given::Bytes],
+        SigId::EndsWithBytes,
+    ),
     ("STRPOS", &[Given::Text, Given::Text], SigId::StrposString),
     ("STRPOS", &[Given::Bytes, Given::Bytes], SigId::StrposBytes),
-    ("REPLACE", &[Given::Text, Given::Text, Given::Text], SigId::ReplaceString),
-    ("REPLACE", &[Given::Bytes, Given::Bytes, Given::Bytes], SigId::ReplaceBytes),
+    (
+        "REPLACE",
+        &[Given::Text, Given::Text, Given::Text],
+        SigId::ReplaceString,
+    ),
+    (
+        "REPLACE",
+        &[Given::Bytes, Given::Bytes, Given::Bytes],
+        SigId::ReplaceBytes,
+    ),
     ("REPEAT", &[Given::Text, Given::Int64], SigId::RepeatString),
     ("REPEAT", &[Given::Bytes, Given::Int64], SigId::RepeatBytes),
     ("REVERSE", &[Given::Text], SigId::ReverseString),
@@ -130,20 +206,56 @@ const ROWS: [(&str, &[Given], SigId); 105] = [
     ("FROM_HEX", &[Given::Text], SigId::FromHex),
     ("ARRAY_LENGTH", &[Given::Null], SigId::ArrayLength),
     ("ARRAY_REVERSE", &[Given::Texts], SigId::ArrayReverse),
-    ("ARRAY_CONCAT", &[Given::Texts, Given::Empty, Given::Texts], SigId::ArrayConcat),
+    (
+        "ARRAY_CONCAT",
+        &[Given::Texts, Given::Empty, Given::Texts],
+        SigId::ArrayConcat,
+    ),
     ("ARRAY_FIRST", &[Given::Texts], SigId::ArrayFirst),
     ("ARRAY_LAST", &[Given::Empty], SigId::ArrayLast),
-    ("ARRAY_TO_STRING", &[Given::Texts, Given::Text], SigId::ArrayToString),
-    ("ARRAY_INCLUDES", &[Given::Empty, Given::Text], SigId::ArrayIncludes),
-    ("GENERATE_ARRAY", &[Given::Int64, Given::Int64], SigId::GenerateArray),
-    ("DATE", &[Given::Int64, Given::Int64, Given::Int64], SigId::Date),
-    ("DATE_ADD", &[Given::Date, Given::Int64, Given::Text], SigId::DateAdd),
-    ("DATE_SUB", &[Given::Date, Given::Int64, Given::Text], SigId::DateSub),
-    ("DATE_DIFF", &[Given::Date, Given::Date, Given::Text], SigId::DateDiff),
+    (
+        "ARRAY_TO_STRING",
+        &[Given::Texts, Given::Text],
+        SigId::ArrayToString,
+    ),
+    (
+        "ARRAY_INCLUDES",
+        &[Given::Empty, Given::Text],
+        SigId::ArrayIncludes,
+    ),
+    (
+        "GENERATE_ARRAY",
+        &[Given::Int64, Given::Int64],
+        SigId::GenerateArray,
+    ),
+    (
+        "DATE",
+        &[Given::Int64, Given::Int64, Given::Int64],
+        SigId::Date,
+    ),
+    (
+        "DATE_ADD",
+        &[Given::Date, Given::Int64, Given::Text],
+        SigId::DateAdd,
+    ),
+    (
+        "DATE_SUB",
+        &[Given::Date, Given::Int64, Given::Text],
+        SigId::DateSub,
+    ),
+    (
+        "DATE_DIFF",
+        &[Given::Date, Given::Date, Given::Text],
+        SigId::DateDiff,
+    ),
     ("DATE_TRUNC", &[Given::Date, Given::Text], SigId::DateTrunc),
     ("EXTRACT", &[Given::Text, Given::Date], SigId::Extract),
     ("UNIX_DATE", &[Given::Date], SigId::UnixDate),
-    ("DATE_FROM_UNIX_DATE", &[Given::Int64], SigId::DateFromUnixDate),
+    (
+        "DATE_FROM_UNIX_DATE",
+        &[Given::Int64],
+        SigId::DateFromUnixDate,
+    ),
 ];
 
 /// A name, the arguments, and the row that is chosen by its cost, where one is.
@@ -160,64 +272,191 @@ const CHOICES: [(&str, &[Given], Option<SigId>); 18] = [
     // what is untyped costs nothing
     ("+", &[Given::Uint64, Given::Null], Some(SigId::AddUint64)),
     ("+", &[Given::Null, Given::Null], Some(SigId::AddInt64)),
-    ("concat", &[Given::Null, Given::Bytes], Some(SigId::ConcatBytes)),
+    (
+        "concat",
+        &[Given::Null, Given::Bytes],
+        Some(SigId::ConcatBytes),
+    ),
     // how many arguments a row takes
     ("SUBSTR", &[Given::Text], None),
-    ("SUBSTR", &[Given::Text, Given::Int64, Given::Int64, Given::Int64], None),
+    (
+        "SUBSTR",
+        &[Given::Text, Given::Int64, Given::Int64, Given::Int64],
+        None,
+    ),
     ("COALESCE", &[], None),
     ("-", &[Given::Uint64], None),
     // what the open types have to be
     ("=", &[Given::Texts, Given::Texts], None),
     ("<", &[Given::Text, Given::Int64], None),
     ("ARRAY_INCLUDES", &[Given::Texts, Given::Int64], None),
-    ("DATE_ADD", &[Given::String("2024-01-31"), Given::Int(1), Given::String("MONTH")], Some(SigId::DateAdd)),
+    (
+        "DATE_ADD",
+        &[
+            Given::String("2024-01-31"),
+            Given::Int(1),
+            Given::String("MONTH"),
+        ],
+        Some(SigId::DateAdd),
+    ),
     ("NOSUCH", &[Given::Int64], None),
 ];
 
 /// A name, the arguments, and the value of the call.
 const VALUES: [(&str, &[Given], Given); 27] = [
     // overflow
-    ("-", &[Given::Uint(18_446_744_073_709_551_615), Given::Uint(9_223_372_036_854_775_808)], Given::Int(9_223_372_036_854_775_807)),
-    ("SAFE_ADD", &[Given::Int(9_223_372_036_854_775_807), Given::Int(1)], Given::Null),
-    ("MOD", &[Given::Int(-9_223_372_036_854_775_808), Given::Int(-1)], Given::Int(0)),
+    (
+        "-",
+        &[
+            Given::Uint(18_446_744_073_709_551_615),
+            Given::Uint(9_223_372_036_854_775_808),
+        ],
+        Given::Int(9_223_372_036_854_775_807),
+    ),
+    (
+        "SAFE_ADD",
+        &[Given::Int(9_223_372_036_854_775_807), Given::Int(1)],
+        Given::Null,
+    ),
+    (
+        "MOD",
+        &[Given::Int(-9_223_372_036_854_775_808), Given::Int(-1)],
+        Given::Int(0),
+    ),
     ("<<", &[Given::Int(1), Given::Int(64)], Given::Int(0)),
     // texts
-    ("SUBSTR", &[Given::String("h\u{e9}llo"), Given::Int(2), Given::Int(3)], Given::String("\u{e9}ll")),
-    ("SUBSTR", &[Given::String("abc"), Given::Int(-2), Given::Int(1)], Given::String("b")),
+    (
+        "SUBSTR",
+        &[Given::String("h\u{e9}llo"), Given::Int(2), Given::Int(3)],
+        Given::String("\u{e9}ll"),
+    ),
+    (
+        "SUBSTR",
+        &[Given::String("abc"), Given::Int(-2), Given::Int(1)],
+        Given::String("b"),
+    ),
     ("LENGTH", &[Given::String("h\u{e9}llo")], Given::Int(5)),
     ("BYTE_LENGTH", &[Given::String("h\u{e9}llo")], Given::Int(6)),
-    ("STRPOS", &[Given::String("abc"), Given::String("d")], Given::Int(0)),
-    ("TO_HEX", &[Given::Binary(b"\xc3\xa9")], Given::String("c3a9")),
-    ("LIKE", &[Given::String("abc"), Given::String("a%")], Given::Truth(true)),
+    (
+        "STRPOS",
+        &[Given::String("abc"), Given::String("d")],
+        Given::Int(0),
+    ),
+    (
+        "TO_HEX",
+        &[Given::Binary(b"\xc3\xa9")],
+        Given::String("c3a9"),
+    ),
+    (
+        "LIKE",
+        &[Given::String("abc"), Given::String("a%")],
+        Given::Truth(true),
+    ),
     ("LIKE", &[Given::Null, Given::String("a\\")], Given::Null),
-    ("CONCAT", &[Given::String("a"), Given::String("b"), Given::String("c")], Given::String("abc")),
+    (
+        "CONCAT",
+        &[Given::String("a"), Given::String("b"), Given::String("c")],
+        Given::String("abc"),
+    ),
     // dates
-    ("DATE_ADD", &[Given::Day("2024-01-31"), Given::Int(1), Given::String("MONTH")], Given::Day("2024-02-29")),
-    ("DATE_ADD", &[Given::String("2023-11-30"), Given::Int(3), Given::String("MONTH")], Given::Day("2024-02-29")),
-    ("DATE_DIFF", &[Given::Day("2024-03-01"), Given::Day("2024-02-28"), Given::String("DAY")], Given::Int(2)),
-    ("DATE_DIFF", &[Given::Day("2024-03-03"), Given::Day("2024-03-02"), Given::String("WEEK")], Given::Int(1)),
-    ("EXTRACT", &[Given::String("DAYOFWEEK"), Given::Day("2024-02-29")], Given::Int(5)),
+    (
+        "DATE_ADD",
+        &[
+            Given::Day("2024-01-31"),
+            Given::Int(1),
+            Given::String("MONTH"),
+        ],
+        Given::Day("2024-02-29"),
+    ),
+    (
+        "DATE_ADD",
+        &[
+            Given::String("2023-11-30"),
+            Given::Int(3),
+            Given::String("MONTH"),
+        ],
+        Given::Day("2024-02-29"),
+    ),
+    (
+        "DATE_DIFF",
+        &[
+            Given::Day("2024-03-01"),
+            Given::Day("2024-02-28"),
+            Given::String("DAY"),
+        ],
+        Given::Int(2),
+    ),
+    (
+        "DATE_DIFF",
+        &[
+            Given::Day("2024-03-03"),
+            Given::Day("2024-03-02"),
+            Given::String("WEEK"),
+        ],
+        Given::Int(1),
+    ),
+    (
+        "EXTRACT",
+        &[Given::String("DAYOFWEEK"), Given::Day("2024-02-29")],
+        Given::Int(5),
+    ),
     // rows with a rule of their own for NULL
-    ("BETWEEN", &[Given::Int(1), Given::Int(2), Given::Null], Given::Truth(false)),
+    (
+        "BETWEEN",
+        &[Given::Int(1), Given::Int(2), Given::Null],
+        Given::Truth(false),
+    ),
     ("IS NULL", &[Given::Null], Given::Truth(true)),
     ("IS TRUE", &[Given::Null], Given::Truth(false)),
-    ("IS DISTINCT FROM", &[Given::Null, Given::Null], Given::Truth(false)),
-    ("IF", &[Given::Null, Given::Int(1), Given::Int(2)], Given::Int(2)),
+    (
+        "IS DISTINCT FROM",
+        &[Given::Null, Given::Null],
+        Given::Truth(false),
+    ),
+    (
+        "IF",
+        &[Given::Null, Given::Int(1), Given::Int(2)],
+        Given::Int(2),
+    ),
     ("COALESCE", &[Given::Null, Given::Int(2)], Given::Int(2)),
     ("IFERROR", &[Given::Int(7), Given::Int(1)], Given::Int(7)),
     ("DIV", &[Given::Null, Given::Int(0)], Given::Null),
-    ("ARRAY_INCLUDES", &[Given::Empty, Given::String("a")], Given::Truth(false)),
+    (
+        "ARRAY_INCLUDES",
+        &[Given::Empty, Given::String("a")],
+        Given::Truth(false),
+    ),
 ];
 
 /// A name, the arguments, and the fault of the call.
 const FAULTS: [(&str, &[Given], FaultKind); 8] = [
-    ("+", &[Given::Int(9_223_372_036_854_775_807), Given::Int(1)], FaultKind::OutOfRange),
-    ("-", &[Given::Int(-9_223_372_036_854_775_808)], FaultKind::OutOfRange),
-    ("DIV", &[Given::Int(1), Given::Int(0)], FaultKind::DivisionByZero),
-    ("SUBSTR", &[Given::String("ab"), Given::Int(1), Given::Int(-1)], FaultKind::Argument),
+    (
+        "+",
+        &[Given::Int(9_223_372_036_854_775_807), Given::Int(1)],
+        FaultKind::OutOfRange,
+    ),
+    (
+        "-",
+        &[Given::Int(-9_223_372_036_854_775_808)],
+        FaultKind::OutOfRange,
+    ),
+    (
+        "DIV",
+        &[Given::Int(1), Given::Int(0)],
+        FaultKind::DivisionByZero,
+    ),
+    (
+        "SUBSTR",
+        &[Given::String("ab"), Given::Int(1), Given::Int(-1)],
+        FaultKind::Argument,
+    ),
     (">>", &[Given::Int(0), Given::Int(-1)], FaultKind::Argument),
     ("ARRAY_FIRST", &[Given::Empty], FaultKind::Index),
-    ("LIKE", &[Given::String("a"), Given::String("a\\")], FaultKind::Pattern),
+    (
+        "LIKE",
+        &[Given::String("a"), Given::String("a\\")],
+        FaultKind::Pattern,
+    ),
     ("ERROR", &[Given::Null], FaultKind::User),
 ];
 
@@ -269,12 +508,22 @@ fn faults(rt: HostRuntime) -> Result<(), Fail> {
 fn conversions(rt: HostRuntime) -> Result<(), Fail> {
     let alloc = rt.alloc();
     let x = argument(alloc, Given::String("x"))?;
-    match converted(alloc, &value(alloc, Given::String("x"))?, &x, &SqlType::Int64) {
+    match converted(
+        alloc,
+        &value(alloc, Given::String("x"))?,
+        &x,
+        &SqlType::Int64,
+    ) {
         Ok(_) => assert!(rt; false),
         Err(found) => assert_eq!(rt; found, CallFault::Fault(FaultKind::Cast)),
     }
     let bytes = value(alloc, Given::Binary(b"\xc3\xa9"))?;
-    match converted(alloc, &value(alloc, Given::String("\u{e9}"))?, &x, &SqlType::Bytes) {
+    match converted(
+        alloc,
+        &value(alloc, Given::String("\u{e9}"))?,
+        &x,
+        &SqlType::Bytes,
+    ) {
         Ok(answer) => assert!(rt; same(&answer, &bytes)),
         Err(_) => assert!(rt; false),
     }
@@ -297,7 +546,12 @@ fn call(alloc: Global, name: &str, given: &[Given]) -> Result<Value, CallFault> 
     let arguments = arguments(alloc, given)?;
     match choose(alloc, &name, arguments.as_slice())? {
         Some(choice) => {
-            let values = all_converted(alloc, given, arguments.as_slice(), choice.targets.as_slice())?;
+            let values = all_converted(
+                alloc,
+                given,
+                arguments.as_slice(),
+                choice.targets.as_slice(),
+            )?;
             if !are_fitting(choice.targets.as_slice(), values.as_slice()) {
                 return Err(CallFault::OutOfMemory);
             }
