@@ -12,7 +12,7 @@ use Rattle.sql_builtins.specs.declared.sig.SigId.{SigId}
 use Rattle.sql_builtins.specs.declared.table.Slot.{Slot}
 use Rattle.sql_builtins.specs.declared.table.Slot.TheVariants as slot
 use Rattle.sql_builtins.specs.declared.table.Repeats.TheVariants as repeats
-use Rattle.sql_builtins.specs.Table.{Signature, signatures}
+use Rattle.sql_builtins.specs.Table.{Signature, functions, aggregates, signatures}
 use Rattle.sql_builtins.specs.Choices.{places, slot_type}
 use Rattle.sql_builtins.specs.Fitting.{Fitting, place_types, first_own, other_owns}
 use Rattle.sql_builtins.specs.Asks.{Asks}
@@ -28,6 +28,10 @@ each-at : (P : Signature → Type 0) (rows : List Signature) (k : ℕ) (row : Si
 each-at P [] k row within is each = absurd (omega arith)
 each-at P (first ∷ rows) zero row within is each = subst P is each.0
 each-at P (first ∷ rows) (suc k) row within is each = each-at P rows k row (omega arith) is each.1
+
+pub each-both : (P : Signature → Type 0) (rows others : List Signature) → Each P rows → Each P others → Each P (rows ++ others)
+each-both P [] others each more = more
+each-both P (row ∷ rows) others each more = (each.0, each-both P rows others each.1 more)
 
 pub each-listed : (P : Signature → Type 0) (rows : List Signature) (row : Signature) → Each P rows → Contains rows row → P row
 each-listed P rows row each listed = each-at P rows listed.0 row listed.1 listed.2 each
@@ -106,8 +110,8 @@ repeated s t values common element owns slots is placed fit = repeated-fit (nat_
 
 -- ---- the table
 
-each_row : Each AsksOf signatures
-each_row = (
+each_function : Each AsksOf functions
+each_function = (
   exact (slot.Int64 ∷ slot.Int64 ∷ []),
   (
     exact (slot.Uint64 ∷ slot.Uint64 ∷ []),
@@ -423,6 +427,13 @@ each_row = (
     ),
   ),
 )
+
+each_aggregate : Each AsksOf aggregates
+each_aggregate =
+    ((λ values common element owns slots placed fit. tt), ((λ values common element owns slots placed fit. tt), ((λ values common element owns slots placed fit. tt), ((λ values common element owns slots placed fit. tt), ((λ values common element owns slots placed fit. tt), ((λ values common element owns slots placed fit. tt), ((λ values common element owns slots placed fit. tt), ((λ values common element owns slots placed fit. tt), ((λ values common element owns slots placed fit. tt), ((λ values common element owns slots placed fit. tt), ((λ values common element owns slots placed fit. tt), ((λ values common element owns slots placed fit. tt), tt))))))))))))
+
+each_row : Each AsksOf signatures
+each_row = each-both AsksOf functions aggregates each_function each_aggregate
 
 pub asks : (sig : SigId) (gives : SqlType) (values : List Value) → Fitting sig gives values → Asks sig values
 asks sig gives values f =

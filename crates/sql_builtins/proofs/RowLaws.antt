@@ -5,9 +5,9 @@ use Rattle.sql_builtins.specs.declared.sig.SigId.{SigId}
 use Rattle.sql_builtins.specs.declared.sig.SigId.TheVariants as sig
 use Rattle.sql_builtins.specs.declared.table.Slot.TheVariants.{Bool, Int64, Uint64, String, Bytes, Date, Texts, Numbers, Common, Element, ArrayOfElement, Any}
 use Rattle.sql_builtins.specs.declared.table.Repeats.TheVariants.{Exactly, LastOptional, LastRepeats}
-use Rattle.sql_builtins.specs.declared.table.Needs.TheVariants.{Nothing, Comparable, Orderable}
-use Rattle.sql_builtins.specs.Table.{Signature, entry, signatures}
-use Rattle.sql_builtins.proofs.FittingLaws.{Each, each-listed}
+use Rattle.sql_builtins.specs.declared.table.Needs.TheVariants.{Nothing, Comparable, Orderable, NoArray}
+use Rattle.sql_builtins.specs.Table.{Signature, entry, functions, aggregates, signatures}
+use Rattle.sql_builtins.proofs.FittingLaws.{Each, each-both, each-listed}
 use Rattle.sql_builtins.proofs.PlaceLaws.{some-same}
 
 abbrev row_at : SigId → Option Signature
@@ -116,14 +116,33 @@ row_at sig.DateTrunc = Some (entry sig.DateTrunc (codes "DATE_TRUNC") (Date ∷ 
 row_at sig.Extract = Some (entry sig.Extract (codes "EXTRACT") (String ∷ Date ∷ []) Exactly Nothing Int64)
 row_at sig.UnixDate = Some (entry sig.UnixDate (codes "UNIX_DATE") (Date ∷ []) Exactly Nothing Int64)
 row_at sig.DateFromUnixDate = Some (entry sig.DateFromUnixDate (codes "DATE_FROM_UNIX_DATE") (Int64 ∷ []) Exactly Nothing Date)
+row_at sig.CountRows = Some (entry sig.CountRows (codes "COUNT") [] Exactly Nothing Int64)
+row_at sig.Count = Some (entry sig.Count (codes "COUNT") (Any ∷ []) Exactly Nothing Int64)
+row_at sig.CountIf = Some (entry sig.CountIf (codes "COUNTIF") (Bool ∷ []) Exactly Nothing Int64)
+row_at sig.SumInt64 = Some (entry sig.SumInt64 (codes "SUM") (Int64 ∷ []) Exactly Nothing Int64)
+row_at sig.SumUint64 = Some (entry sig.SumUint64 (codes "SUM") (Uint64 ∷ []) Exactly Nothing Uint64)
+row_at sig.Min = Some (entry sig.Min (codes "MIN") (Common ∷ []) Exactly Orderable Common)
+row_at sig.Max = Some (entry sig.Max (codes "MAX") (Common ∷ []) Exactly Orderable Common)
+row_at sig.LogicalAnd = Some (entry sig.LogicalAnd (codes "LOGICAL_AND") (Bool ∷ []) Exactly Nothing Bool)
+row_at sig.LogicalOr = Some (entry sig.LogicalOr (codes "LOGICAL_OR") (Bool ∷ []) Exactly Nothing Bool)
+row_at sig.StringAgg = Some (entry sig.StringAgg (codes "STRING_AGG") (String ∷ String ∷ []) LastOptional Nothing String)
+row_at sig.ArrayAgg = Some (entry sig.ArrayAgg (codes "ARRAY_AGG") (Element ∷ []) Exactly NoArray ArrayOfElement)
+row_at sig.AnyValue = Some (entry sig.AnyValue (codes "ANY_VALUE") (Common ∷ []) Exactly Nothing Common)
 row_at _ = None
 
 abbrev Found : Signature → Type 0
 Found row = row_at row.sig ≡ Some row
 
-each_found : Each Found signatures
-each_found =
+each_function : Each Found functions
+each_function =
     (refl, (refl, (refl, (refl, (refl, (refl, (refl, (refl, (refl, (refl, (refl, (refl, (refl, (refl, (refl, (refl, (refl, (refl, (refl, (refl, (refl, (refl, (refl, (refl, (refl, (refl, (refl, (refl, (refl, (refl, (refl, (refl, (refl, (refl, (refl, (refl, (refl, (refl, (refl, (refl, (refl, (refl, (refl, (refl, (refl, (refl, (refl, (refl, (refl, (refl, (refl, (refl, (refl, (refl, (refl, (refl, (refl, (refl, (refl, (refl, (refl, (refl, (refl, (refl, (refl, (refl, (refl, (refl, (refl, (refl, (refl, (refl, (refl, (refl, (refl, (refl, (refl, (refl, (refl, (refl, (refl, (refl, (refl, (refl, (refl, (refl, (refl, (refl, (refl, (refl, (refl, (refl, (refl, (refl, (refl, (refl, (refl, (refl, (refl, (refl, (refl, (refl, (refl, (refl, (refl, tt)))))))))))))))))))))))))))))))))))))))))))))))))))))))))))))))))))))))))))))))))))))))))))))))))))))))))
+
+each_aggregate : Each Found aggregates
+each_aggregate =
+    (refl, (refl, (refl, (refl, (refl, (refl, (refl, (refl, (refl, (refl, (refl, (refl, tt))))))))))))
+
+each_found : Each Found signatures
+each_found = each-both Found functions aggregates each_function each_aggregate
 
 pub one_row : (row other : Signature) → Contains signatures row → Contains signatures other → row.sig ≡ other.sig → row ≡ other
 one_row row other listed other_listed same =

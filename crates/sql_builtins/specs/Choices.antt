@@ -1,5 +1,5 @@
 -- The choice among the rows of the signature table.
-use Rattle.std.specs.Prelude.{ℕ, suc, ◌+◌, ◌-◌, ◌==◌, nat_lt, nat_le, Bool, true, false, ◌&&◌, ◌||◌, if◌then◌else◌, List, [], ◌∷◌, ◌++◌, map, length, take, replicate, Option, None, Some, option_map, option_and_then}
+use Rattle.std.specs.Prelude.{ℕ, suc, ◌+◌, ◌-◌, ◌==◌, nat_lt, nat_le, Bool, true, false, ◌&&◌, ◌||◌, if◌then◌else◌, List, [], ◌∷◌, ◌++◌, map, length, take, replicate, Option, None, Some, option_map, option_and_then, is_none}
 use Rattle.std.specs.List.{last_or, filter_map}
 use Rattle.std.specs.Str.{str_eq_ignore_ascii_case}
 use Rattle.sql_types.specs.declared.sql_type.SqlType.{SqlType, out-SqlType}
@@ -120,6 +120,7 @@ abbrev pub meets : Needs → SqlType → Bool
 meets needs.Nothing ty = true
 meets needs.Comparable ty = comparable ty
 meets needs.Orderable ty = orderable ty
+meets needs.NoArray ty = is_none (element_layer (out-SqlType ty))
 
 -- ---- what a choice costs
 

@@ -247,6 +247,19 @@ fn apply_row(alloc: Global, sig: SigId, values: &[Value]) -> Result<Value, CallF
         SigId::DateFromUnixDate => date_from_unix_date_int64(values),
         // A lambda is no value: no such call comes here.
         SigId::ArrayIncludesLambda | SigId::ArrayFilter | SigId::ArrayTransform => Ok(Value::Null),
+        // An aggregate goes over many rows: no such call comes here either.
+        SigId::CountRows
+        | SigId::Count
+        | SigId::CountIf
+        | SigId::SumInt64
+        | SigId::SumUint64
+        | SigId::Min
+        | SigId::Max
+        | SigId::LogicalAnd
+        | SigId::LogicalOr
+        | SigId::StringAgg
+        | SigId::ArrayAgg
+        | SigId::AnyValue => Ok(Value::Null),
     }
 }
 

@@ -103,5 +103,6 @@ pub(crate) fn meets(needs: Needs, ty: &SqlType) -> bool
         Needs::Nothing => true,
         Needs::Comparable => comparable(ty),
         Needs::Orderable => orderable(ty),
+        Needs::NoArray => !matches!(ty, SqlType::Array(_)),
     }
 }

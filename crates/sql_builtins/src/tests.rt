@@ -38,7 +38,7 @@ enum Given {
 }
 
 /// A name, the arguments, and the row that is chosen for them.
-const ROWS: [(&str, &[Given], SigId); 105] = [
+const ROWS: [(&str, &[Given], SigId); 117] = [
     ("+", &[Given::Int64, Given::Int64], SigId::AddInt64),
     ("+", &[Given::Uint64, Given::Uint64], SigId::AddUint64),
     ("*", &[Given::Int64, Given::Int64], SigId::MultiplyInt64),
@@ -256,10 +256,27 @@ const ROWS: [(&str, &[Given], SigId); 105] = [
         &[Given::Int64],
         SigId::DateFromUnixDate,
     ),
+    ("COUNT", &[], SigId::CountRows),
+    ("COUNT", &[Given::Texts], SigId::Count),
+    ("COUNTIF", &[Given::Bool], SigId::CountIf),
+    ("SUM", &[Given::Int64], SigId::SumInt64),
+    ("SUM", &[Given::Uint64], SigId::SumUint64),
+    ("MIN", &[Given::Date], SigId::Min),
+    ("MAX", &[Given::Date], SigId::Max),
+    ("LOGICAL_AND", &[Given::Bool], SigId::LogicalAnd),
+    ("LOGICAL_OR", &[Given::Bool], SigId::LogicalOr),
+    ("STRING_AGG", &[Given::Text, Given::Text], SigId::StringAgg),
+    ("ARRAY_AGG", &[Given::Bytes], SigId::ArrayAgg),
+    ("ANY_VALUE", &[Given::Date], SigId::AnyValue),
 ];
 
 /// A name, the arguments, and the row that is chosen by its cost, where one is.
-const CHOICES: [(&str, &[Given], Option<SigId>); 18] = [
+const CHOICES: [(&str, &[Given], Option<SigId>); 22] = [
+    // ARRAY_AGG takes no array, and MIN nothing that has no order
+    ("ARRAY_AGG", &[Given::Texts], None),
+    ("ARRAY_AGG", &[Given::Null], Some(SigId::ArrayAgg)),
+    ("MIN", &[Given::Texts], None),
+    ("STRING_AGG", &[Given::Text], Some(SigId::StringAgg)),
     // a literal coerces
     ("+", &[Given::Uint64, Given::Int(1)], Some(SigId::AddUint64)),
     ("+", &[Given::Int(1), Given::Int(1)], Some(SigId::AddInt64)),
