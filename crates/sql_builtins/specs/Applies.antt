@@ -12,7 +12,7 @@ use Rattle.sql_dates.specs.Apply as d
 use Rattle.sql_builtins.specs.declared.sig.SigId.{SigId}
 use Rattle.sql_builtins.specs.declared.sig.SigId.TheVariants as sig
 
--- The value or the fault of a row for values that fit it.
+-- The value or the fault of a row for values that fit it. No row asks for the type that it gives.
 abbrev pub apply : SigId → List Value → Outcome Value
 apply sig.AddInt64 = i.apply_add as_int64
 apply sig.AddUint64 = i.apply_add as_uint64
@@ -123,3 +123,16 @@ apply sig.DateFromUnixDate = d.date_from_unix_date
 apply sig.ArrayIncludesLambda = λ values. Ok value.Null
 apply sig.ArrayFilter = λ values. Ok value.Null
 apply sig.ArrayTransform = λ values. Ok value.Null
+-- an aggregate goes over the values of many rows: these rows are applied to none either
+apply sig.CountRows = λ values. Ok value.Null
+apply sig.Count = λ values. Ok value.Null
+apply sig.CountIf = λ values. Ok value.Null
+apply sig.SumInt64 = λ values. Ok value.Null
+apply sig.SumUint64 = λ values. Ok value.Null
+apply sig.Min = λ values. Ok value.Null
+apply sig.Max = λ values. Ok value.Null
+apply sig.LogicalAnd = λ values. Ok value.Null
+apply sig.LogicalOr = λ values. Ok value.Null
+apply sig.StringAgg = λ values. Ok value.Null
+apply sig.ArrayAgg = λ values. Ok value.Null
+apply sig.AnyValue = λ values. Ok value.Null

@@ -1,5 +1,5 @@
 -- The choice among the rows of the signature table.
-use Rattle.std.specs.Prelude.{ℕ, suc, ◌+◌, ◌-◌, ◌==◌, nat_lt, nat_le, Bool, true, false, ◌&&◌, ◌||◌, if◌then◌else◌, List, [], ◌∷◌, ◌++◌, map, length, take, replicate, Option, None, Some, option_map, option_and_then}
+use Rattle.std.specs.Prelude.{ℕ, suc, ◌+◌, ◌-◌, ◌==◌, nat_lt, nat_le, Bool, true, false, ◌&&◌, ◌||◌, if◌then◌else◌, List, [], ◌∷◌, ◌++◌, map, length, take, replicate, Option, None, Some, option_map, option_and_then, is_none}
 use Rattle.std.specs.List.{last_or, filter_map}
 use Rattle.std.specs.Str.{str_eq_ignore_ascii_case}
 use Rattle.sql_types.specs.declared.sql_type.SqlType.{SqlType, out-SqlType}
@@ -120,6 +120,7 @@ abbrev pub meets : Needs → SqlType → Bool
 meets needs.Nothing ty = true
 meets needs.Comparable ty = comparable ty
 meets needs.Orderable ty = orderable ty
+meets needs.NoArray ty = is_none (element_layer (out-SqlType ty))
 
 -- ---- what a choice costs
 
@@ -191,7 +192,11 @@ abbrev pub rows_of : List ℕ → List Signature → List Signature
 rows_of name [] = []
 rows_of name (row ∷ rows) = if str_eq_ignore_ascii_case row.name name then row ∷ rows_of name rows else rows_of name rows
 
--- Among the rows of this name that apply, the one with the fewest coercions of arguments that aren't literals, then with the
--- fewest of literals, then the first; or none.
+-- Among the rows of this name in a table that apply, the one with the fewest coercions of arguments that aren't literals, then
+-- with the fewest of literals, then the first; or none.
+unfoldable pub chosen_of : List Signature → List ℕ → List Arg → Option Choice
+chosen_of rows name arguments = option_map (λ a. a.choice) (cheapest (filter_map (applied arguments) (rows_of name rows)))
+
+-- the choice among the rows of the signature table
 unfoldable pub chosen : List ℕ → List Arg → Option Choice
-chosen name arguments = option_map (λ a. a.choice) (cheapest (filter_map (applied arguments) (rows_of name signatures)))
+chosen name arguments = chosen_of signatures name arguments

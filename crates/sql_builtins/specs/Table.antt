@@ -1,5 +1,6 @@
--- The signature table: each function and operator with what it takes and gives, a row a line.
-use Rattle.std.specs.Prelude.{ℕ, List, [], ◌∷◌, codes}
+-- The signature table: each function, operator and aggregate with what it takes and gives, a row a line. No call with a lambda
+-- stands in it, since a lambda is no argument by whose type a row is chosen.
+use Rattle.std.specs.Prelude.{ℕ, List, [], ◌∷◌, ◌++◌, codes}
 use Rattle.sql_builtins.specs.declared.sig.SigId.{SigId}
 use Rattle.sql_builtins.specs.declared.sig.SigId.TheVariants as sig
 use Rattle.sql_builtins.specs.declared.table.Slot.{Slot}
@@ -7,7 +8,7 @@ use Rattle.sql_builtins.specs.declared.table.Slot.TheVariants.{Bool, Int64, Uint
 use Rattle.sql_builtins.specs.declared.table.Repeats.{Repeats}
 use Rattle.sql_builtins.specs.declared.table.Repeats.TheVariants.{Exactly, LastOptional, LastRepeats}
 use Rattle.sql_builtins.specs.declared.table.Needs.{Needs}
-use Rattle.sql_builtins.specs.declared.table.Needs.TheVariants.{Nothing, Comparable, Orderable}
+use Rattle.sql_builtins.specs.declared.table.Needs.TheVariants.{Nothing, Comparable, Orderable, NoArray}
 
 -- a row: its name as it is written, an operator's being its sign or its words
 pub record Signature : Type 0 where
@@ -21,8 +22,9 @@ pub record Signature : Type 0 where
 abbrev pub entry : SigId → List ℕ → List Slot → Repeats → Needs → Slot → Signature
 entry sig name takes repeats needs gives = record { sig = sig; name = name; takes = takes; repeats = repeats; needs = needs; gives = gives }
 
-abbrev pub signatures : List Signature
-signatures =
+-- functions and operators
+abbrev pub functions : List Signature
+functions =
     entry sig.AddInt64 (codes "+") (Int64 ∷ Int64 ∷ []) Exactly Nothing Int64 ∷
     entry sig.AddUint64 (codes "+") (Uint64 ∷ Uint64 ∷ []) Exactly Nothing Uint64 ∷
     entry sig.MultiplyInt64 (codes "*") (Int64 ∷ Int64 ∷ []) Exactly Nothing Int64 ∷
@@ -129,3 +131,23 @@ signatures =
     entry sig.UnixDate (codes "UNIX_DATE") (Date ∷ []) Exactly Nothing Int64 ∷
     entry sig.DateFromUnixDate (codes "DATE_FROM_UNIX_DATE") (Int64 ∷ []) Exactly Nothing Date ∷
     []
+
+-- Aggregates. COUNT(*) has no argument. What ARRAY_AGG takes is no array.
+abbrev pub aggregates : List Signature
+aggregates =
+    entry sig.CountRows (codes "COUNT") [] Exactly Nothing Int64 ∷
+    entry sig.Count (codes "COUNT") (Any ∷ []) Exactly Nothing Int64 ∷
+    entry sig.CountIf (codes "COUNTIF") (Bool ∷ []) Exactly Nothing Int64 ∷
+    entry sig.SumInt64 (codes "SUM") (Int64 ∷ []) Exactly Nothing Int64 ∷
+    entry sig.SumUint64 (codes "SUM") (Uint64 ∷ []) Exactly Nothing Uint64 ∷
+    entry sig.Min (codes "MIN") (Common ∷ []) Exactly Orderable Common ∷
+    entry sig.Max (codes "MAX") (Common ∷ []) Exactly Orderable Common ∷
+    entry sig.LogicalAnd (codes "LOGICAL_AND") (Bool ∷ []) Exactly Nothing Bool ∷
+    entry sig.LogicalOr (codes "LOGICAL_OR") (Bool ∷ []) Exactly Nothing Bool ∷
+    entry sig.StringAgg (codes "STRING_AGG") (String ∷ String ∷ []) LastOptional Nothing String ∷
+    entry sig.ArrayAgg (codes "ARRAY_AGG") (Element ∷ []) Exactly NoArray ArrayOfElement ∷
+    entry sig.AnyValue (codes "ANY_VALUE") (Common ∷ []) Exactly Nothing Common ∷
+    []
+
+abbrev pub signatures : List Signature
+signatures = functions ++ aggregates

@@ -1,4 +1,4 @@
-//! The signature table: for each function and operator, what it takes and gives.
+//! The signature table: for each function, operator and aggregate, what it takes and gives.
 ghost use Rattle.std.specs.Prelude.{◌≡◌, map};
 ghost use Rattle.sql_builtins.specs.Seen.{seen};
 ghost use Rattle.sql_builtins.specs.Table.{signatures};
@@ -45,6 +45,8 @@ pub enum Needs {
     Nothing,
     Comparable,
     Orderable,
+    /// No array.
+    NoArray,
 }
 
 /// A row of the table. Rows of one name are tried in the order in which they stand.
@@ -60,7 +62,7 @@ pub struct Row {
 }
 
 /// The table.
-pub const ROWS: [Row; 105] = [
+pub const ROWS: [Row; 117] = [
     Row {
         sig: SigId::AddInt64,
         name: b"+",
@@ -900,6 +902,102 @@ pub const ROWS: [Row; 105] = [
         repeats: Repeats::Exactly,
         needs: Needs::Nothing,
         gives: Slot::Date,
+    },
+    Row {
+        sig: SigId::CountRows,
+        name: b"COUNT",
+        takes: &[],
+        repeats: Repeats::Exactly,
+        needs: Needs::Nothing,
+        gives: Slot::Int64,
+    },
+    Row {
+        sig: SigId::Count,
+        name: b"COUNT",
+        takes: &[Slot::Any],
+        repeats: Repeats::Exactly,
+        needs: Needs::Nothing,
+        gives: Slot::Int64,
+    },
+    Row {
+        sig: SigId::CountIf,
+        name: b"COUNTIF",
+        takes: &[Slot::Bool],
+        repeats: Repeats::Exactly,
+        needs: Needs::Nothing,
+        gives: Slot::Int64,
+    },
+    Row {
+        sig: SigId::SumInt64,
+        name: b"SUM",
+        takes: &[Slot::Int64],
+        repeats: Repeats::Exactly,
+        needs: Needs::Nothing,
+        gives: Slot::Int64,
+    },
+    Row {
+        sig: SigId::SumUint64,
+        name: b"SUM",
+        takes: &[Slot::Uint64],
+        repeats: Repeats::Exactly,
+        needs: Needs::Nothing,
+        gives: Slot::Uint64,
+    },
+    Row {
+        sig: SigId::Min,
+        name: b"MIN",
+        takes: &[Slot::Common],
+        repeats: Repeats::Exactly,
+        needs: Needs::Orderable,
+        gives: Slot::Common,
+    },
+    Row {
+        sig: SigId::Max,
+        name: b"MAX",
+        takes: &[Slot::Common],
+        repeats: Repeats::Exactly,
+        needs: Needs::Orderable,
+        gives: Slot::Common,
+    },
+    Row {
+        sig: SigId::LogicalAnd,
+        name: b"LOGICAL_AND",
+        takes: &[Slot::Bool],
+        repeats: Repeats::Exactly,
+        needs: Needs::Nothing,
+        gives: Slot::Bool,
+    },
+    Row {
+        sig: SigId::LogicalOr,
+        name: b"LOGICAL_OR",
+        takes: &[Slot::Bool],
+        repeats: Repeats::Exactly,
+        needs: Needs::Nothing,
+        gives: Slot::Bool,
+    },
+    Row {
+        sig: SigId::StringAgg,
+        name: b"STRING_AGG",
+        takes: &[Slot::String, Slot::String],
+        repeats: Repeats::LastOptional,
+        needs: Needs::Nothing,
+        gives: Slot::String,
+    },
+    Row {
+        sig: SigId::ArrayAgg,
+        name: b"ARRAY_AGG",
+        takes: &[Slot::Element],
+        repeats: Repeats::Exactly,
+        needs: Needs::NoArray,
+        gives: Slot::ArrayOfElement,
+    },
+    Row {
+        sig: SigId::AnyValue,
+        name: b"ANY_VALUE",
+        takes: &[Slot::Common],
+        repeats: Repeats::Exactly,
+        needs: Needs::Nothing,
+        gives: Slot::Common,
     },
 ];
 

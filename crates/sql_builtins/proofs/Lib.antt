@@ -1,0 +1,11 @@
+pub mod ArrayLaws
+pub mod DateLaws
+pub mod StepLaws
+pub mod PlaceLaws
+pub mod FilledLaws
+pub mod FittingLaws
+pub mod RowLaws
+pub mod ChoiceLaws
+pub mod BetterLaws
+pub mod EndLaws
+pub mod RowSteps

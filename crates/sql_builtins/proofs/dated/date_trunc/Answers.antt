@@ -1,0 +1,6 @@
+use Rattle.std.proofs.Common.{sym, ◌∙◌}
+use Rattle.sql_builtins.proofs.DateLaws.{trunc-nameless}
+use Rattle.sql_builtins.proofs.dated.date_trunc.Goals as goal
+
+pub returns-else-has_part : goal.returns-else-has_part
+returns-else-has_part c = trunc-nameless c.args.values.now (sym c.has_part.ensures ∙ c.if-has_part.false)
