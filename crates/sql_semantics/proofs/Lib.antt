@@ -1,3 +1,4 @@
 pub mod Trees
 pub mod SmallCatalog
 pub mod TypingLaws
+pub mod MeaningLaws
