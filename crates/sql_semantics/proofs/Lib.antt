@@ -1,4 +1,6 @@
 pub mod Trees
 pub mod SmallCatalog
+pub mod UnbuiltLaws
 pub mod TypingLaws
 pub mod MeaningLaws
+mod RowExamples

@@ -152,9 +152,15 @@ module _ (catalog : Entries) (definitions : List Defined) (meant : List Meant) (
     abbrev call_arguments : List (Argument E) → List (Argument Expr)
     call_arguments xs = (called (record { function = function.If; distinct = false; star = false; arguments = xs; nulls = None; order = []; limit = None; place = 0 })).arguments
 
+    natural-expression : (name : Option (List ℕ)) (e : E) (env : Env) → expression_operand catalog definitions meant tables params named name e env ≡ expression_operand catalog definitions meant tables params whole name (v1 e) env
+    natural-expression (Some name) e env = refl
+    natural-expression None e env = refl
+
     natural-arguments : (here : Option ℕ) (xs : List (Argument E)) (env : Env) → call_operands catalog definitions meant tables params named here xs env ≡ call_operands catalog definitions meant tables params whole here (call_arguments xs) env
     natural-arguments here [] env = refl
-    natural-arguments here (arg.Expr e ∷ xs) env = ap (λ (ys : List Operand). argument_operands catalog definitions meant tables params whole (is_part here) (arg.Expr (v1 e)) env ++ ys) (natural-arguments (next_part here) xs env)
+    natural-arguments here (arg.Expr e ∷ xs) env =
+        ap (λ (x : Operand). x ∷ call_operands catalog definitions meant tables params named (next_part here) xs env) (natural-expression (if is_part here then single_name (v1 e) else None) e env)
+        ∙ ap (λ (ys : List Operand). argument_operands catalog definitions meant tables params whole (is_part here) (arg.Expr (v1 e)) env ++ ys) (natural-arguments (next_part here) xs env)
     natural-arguments here (arg.Interval amount part place ∷ xs) env =
         ap (λ (ys : List Operand). argument_operands catalog definitions meant tables params whole (is_part here) (arg.Interval (v1 amount) part place) env ++ ys) (natural-arguments (next_part here) xs env)
     natural-arguments here (arg.Lambda variables body place ∷ xs) env = natural-arguments (next_part here) xs env
