@@ -3,4 +3,5 @@ pub mod SmallCatalog
 pub mod UnbuiltLaws
 pub mod TypingLaws
 pub mod MeaningLaws
-mod RowExamples
+pub mod Computing
+pub mod ChoiceExamples
