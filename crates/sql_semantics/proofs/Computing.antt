@@ -1,5 +1,5 @@
 -- The equations by which worked examples are computed: one step each of typing, of the trees, of types and of values.
-use Rattle.std.proofs.Common.{◌≡◌, Bool, List, ap, sym, ◌∙◌}
+use Rattle.std.proofs.Common.{◌≡◌, Bool, true, false, List, ap, sym, ◌∙◌}
 use Rattle.sql_types.specs.declared.sql_type.SqlType.TheVariants.{outs-Bool as type-Bool, outs-Int32 as type-Int32, outs-Int64 as type-Int64, outs-Uint32 as type-Uint32, outs-Uint64 as type-Uint64, outs-Text as type-Text, outs-Bytes as type-Bytes, outs-Date as type-Date, outs-Array as type-Array, outs-Struct as type-Struct}
 use Rattle.sql_types.specs.declared.value.Value.TheVariants.{outs-Null as value-Null, outs-Bool as value-Bool, outs-Int as value-Int, outs-Uint as value-Uint, outs-Text as value-Text, outs-Bytes as value-Bytes, outs-Date as value-Date, outs-Array as value-Array, outs-Struct as value-Struct}
 use Rattle.sql_types.proofs.TypeOpens.{comparable_opens, same_opens}
@@ -19,14 +19,14 @@ use Rattle.sql_ast.specs.declared.query.Joined.{Joined, out-Joined, out-roll-Joi
 use Rattle.sql_ast.specs.declared.query.Query.{Query, out-Query, out-roll-Query}
 use Rattle.sql_ast.specs.declared.query.Select.{Select, out-Select, out-roll-Select}
 use Rattle.sql_rules.specs.declared.scope.Entry.{Entry}
-use Rattle.sql_semantics.specs.Checks.{Checked}
-use Rattle.sql_semantics.specs.Sights.{Sight}
+use Rattle.sql_semantics.specs.Checks.{Checked, broken}
+use Rattle.sql_semantics.specs.Sights.{Sight, nothing_in_sight}
 use Rattle.sql_semantics.specs.FromScopes.{FromScope}
 use Rattle.sql_semantics.specs.TypeNames.{written_type, written_layer}
 use Rattle.sql_semantics.specs.TypeCalls.{Defined}
-use Rattle.sql_semantics.specs.TypeLayers.{expr_layer, primary_layer, term_layer, from_layer, joined_layer, query_layer, select_layer}
-use Rattle.sql_semantics.specs.Types.{AsExpr, AsPrimary, AsFrom, AsJoined, AsColumns, typed, TypeExpr, TypePrimary, TypeTerm, TypeFrom, TypeJoined, TypeQuery, TypeSelect}
-use Rattle.sql_semantics.proofs.UnbuiltLaws.{unbuilt-expr, unbuilt-primary, unbuilt-term, unbuilt-from, unbuilt-joined, unbuilt-query, unbuilt-select}
+use Rattle.sql_semantics.specs.TypeLayers.{Columns, expr_layer, primary_layer, term_layer, from_layer, joined_layer, query_layer, select_layer}
+use Rattle.sql_semantics.specs.Types.{AsExpr, AsPrimary, AsFrom, AsJoined, AsColumns, typed, TypeExpr, TypePrimary, TypeTerm, TypeFrom, TypeJoined, TypeQuery, TypeSelect, definitions_of, TypeText}
+use Rattle.sql_semantics.specs.Unbuilt.{unbuilt_query}
 use Rattle.sql_semantics.proofs.TypingLaws.{typed-expr, typed-primary, typed-term, typed-from, typed-joined, typed-query, typed-select}
 
 -- ---- typing
@@ -57,6 +57,17 @@ pub type-written : (x : TypeSpelling) → written_type x ≡ written_layer (map-
 unfolding written_type
 type-written x = fold_out-TypeSpelling _ written_layer x
 
+-- what typing answers for a text of built forms
+abbrev pub answer : Entries → Query → Checked Columns
+answer catalog query = TypeQuery catalog (definitions_of catalog) query nothing_in_sight
+
+-- a text of built forms is typed with nothing in sight, and every other is refused by rule 2
+pub text_typed : (catalog : Entries) (query : Query) → unbuilt_query query ≡ false → TypeText catalog query ≡ answer catalog query
+text_typed catalog query built = simp (TypeText, built)
+
+pub text_refused : (catalog : Entries) (query : Query) → unbuilt_query query ≡ true → TypeText catalog query ≡ broken 2 0
+text_refused catalog query found = simp (TypeText, found)
+
 -- ---- lists of equations
 
 pub ruleset trees = (
@@ -75,4 +86,3 @@ pub ruleset opens = (converted-opens, castable-opens, other_coerces-opens, meet-
 
 pub ruleset typing = (type-expr, type-primary, type-term, type-from, type-joined, type-query, type-select, type-written)
 
-pub ruleset built = (unbuilt-expr, unbuilt-primary, unbuilt-term, unbuilt-from, unbuilt-joined, unbuilt-query, unbuilt-select)

@@ -5,3 +5,4 @@ pub mod TypingLaws
 pub mod MeaningLaws
 pub mod Computing
 pub mod ChoiceExamples
+mod TypedExamples
