@@ -109,3 +109,12 @@ iserror_truth = simp (opens, types, values)
 pub substr_of : (text : List ℕ) (n : ℤ) → chosen (codes "SUBSTR") (word text ∷ number n ∷ other_arg ty.Int64 ∷ []) ≡ row sig.SubstrString (ty.Text ∷ ty.Int64 ∷ ty.Int64 ∷ []) ty.Text
 unfolding chosen
 substr_of text n = simp (opens, types, values)
+
+pub plus_columns : chosen (codes "+") (other_arg ty.Int64 ∷ other_arg ty.Int64 ∷ []) ≡ row sig.AddInt64 (ty.Int64 ∷ ty.Int64 ∷ []) ty.Int64
+unfolding chosen
+plus_columns = simp (opens, types)
+
+-- EXTRACT takes any part, and its parts are looked at behind the choice
+pub extract_week : (day : ℤ) → chosen (codes "EXTRACT") (word (codes "WEEK") ∷ record { ty = Some ty.Date; kind = kind.Literal (v.Date day) } ∷ []) ≡ row sig.Extract (ty.Text ∷ ty.Date ∷ []) ty.Int64
+unfolding chosen
+extract_week day = simp (opens, types, values)

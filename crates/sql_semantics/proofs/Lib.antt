@@ -6,3 +6,6 @@ pub mod MeaningLaws
 pub mod Computing
 pub mod ChoiceExamples
 mod TypedExamples
+mod RefusedExamples
+mod FaultyExamples
+mod ScopeExamples
