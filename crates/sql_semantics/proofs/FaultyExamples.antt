@@ -1,6 +1,9 @@
 -- Worked examples of typing: texts that break a rule of types or of forms, with the place.
-use Rattle.std.proofs.Common.{◌≡◌, ◌∙◌, ℕ, pos, Bool, true, false, List, [], ◌∷◌, codes, Option, None, Some, Ok, Err}
+use Rattle.std.proofs.Common.{◌≡◌, refl, ◌∙◌, ℕ, pos, Bool, true, false, List, [], ◌∷◌, codes, Option, None, Some, Ok, Err}
 use Rattle.sql_types.specs.declared.sql_type.SqlType.TheVariants as ty
+use Rattle.sql_semantics.specs.TypeForms.{date_literal}
+use Rattle.sql_semantics.specs.TypeCalls.{extract_type}
+use Rattle.sql_types.specs.Calendar.{month_length, year_length, year_lengths, calendar_years, days_before_year, days_before_month, day_number, read_date}
 use Rattle.sql_ast.specs.declared.clauses.Item.TheVariants as item
 use Rattle.sql_ast.specs.declared.expr.Expr.{Expr}
 use Rattle.sql_ast.specs.declared.expr.Expr.TheVariants as e
@@ -19,6 +22,14 @@ use Rattle.sql_semantics.proofs.Trees.{named, arguments, sum, product, both, equ
 use Rattle.sql_semantics.proofs.SmallCatalog.{three_tables, column_of, unnamed}
 use Rattle.sql_semantics.proofs.Computing.{trees, types, values, opens, typing, answer}
 use Rattle.sql_semantics.proofs.ChoiceExamples.{equal_column, equal_columns, equal_truths, equal_untyped, error_of, and_of, and_number, not_number, not_truth, extract_week, plus_columns, plus_numbers, plus_column, plus_unsigned, times_columns, minus_number, div_numbers, iferror_number, iserror_truth, substr_of}
+
+january : read_date (codes "2024-01-31") ≡ Some (pos 19753)
+unfolding read_date month_length day_number days_before_year days_before_month calendar_years year_lengths year_length
+january = refl
+
+february : read_date (codes "2024-02-30") ≡ None
+unfolding read_date month_length
+february = refl
 
 -- `SELECT 1 FROM t WHERE a`
 abbrev no_condition_text : Query
@@ -50,7 +61,7 @@ no_cast_text = select_only 0 (plain (e.Cast false (e.Date (codes "2024-01-31") 1
 
 no_cast : answer three_tables no_cast_text ≡ Err (12, 7)
 unfolding found
-no_cast = simp (typing, trees, opens, types, values)
+no_cast = simp (january, date_literal, typing, trees, opens, types, values)
 
 -- `SELECT (SELECT 1, 2)`
 abbrev two_columns_text : Query
@@ -122,7 +133,7 @@ no_part_text = select_only 0 (plain (e.Extract (named (codes "WEEK") 15) (e.Date
 
 no_part : answer three_tables no_part_text ≡ Err (22, 15)
 unfolding found
-no_part = simp (extract_week, typing, trees, opens, types, values)
+no_part = simp (january, extract_week, extract_type, date_literal, typing, trees, opens, types, values)
 
 -- `SELECT @p`
 abbrev no_parameter_text : Query
@@ -170,4 +181,4 @@ no_date_text = select_only 0 (plain (e.Date (codes "2024-02-30") 7) 7 ∷ [])
 
 no_date : answer three_tables no_date_text ≡ Err (30, 7)
 unfolding found
-no_date = simp (typing, trees, opens, types, values)
+no_date = simp (february, date_literal, typing, trees, opens, types, values)

@@ -9,3 +9,6 @@ mod TypedExamples
 mod RefusedExamples
 mod FaultyExamples
 mod ScopeExamples
+pub mod OnlyLaws
+pub mod Evaluating
+mod MeantExamples
