@@ -12,3 +12,4 @@ mod ScopeExamples
 pub mod OnlyLaws
 pub mod Evaluating
 mod MeantExamples
+mod QueryExamples

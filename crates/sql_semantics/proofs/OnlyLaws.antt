@@ -1,8 +1,10 @@
 -- Meanings that permit one outcome alone.
-use Rattle.std.proofs.Common.{◌≡◌, ℕ, suc, ◌<◌, List, [], ◌∷◌, length, slice_get, Option, None, Some, inl, inr, Result, Ok, Err, refl, sym, ◌∙◌, ap, subst}
+use Rattle.std.proofs.Common.{◌≡◌, ◌⊎◌, ℕ, Bool, false, List, [], ◌∷◌, length, slice_get, Option, None, Some, inl, inr, Result, Ok, Err, refl, sym, ◌∙◌, ap, subst}
 use Rattle.sql_types.specs.declared.fault.FaultKind.{FaultKind}
 use Rattle.sql_types.specs.declared.fault.FaultKind.TheVariants as fault
 use Rattle.sql_types.specs.declared.value.Value.{Value}
+use Rattle.sql_types.specs.declared.value.Value.TheVariants as v
+use Rattle.sql_types.specs.Logic.{Decided, all_valued, one_decides, one_of_faults}
 use Rattle.sql_types.specs.Arranged.{Arranged, Permutes, permutes_none, permutes_skip, permutes_swap, permutes_then}
 use Rattle.sql_types.specs.Outcome.{Outcome, Meaning, gives, just, ◌>>=◌, goes_on, ends, EachGives, SomeFaults, Gather, all_give, one_faults, Both, both_give, left_faults, right_faults}
 use Rattle.sql_types.proofs.Orders.{arranged_refl}
@@ -150,3 +152,42 @@ scalar_rows rows several = record {
     scalar_alone rows several p (goes_on {x = list} (own, arranged, same) more) =
         more ∙ several_single list (subst Several (sym (same_value same)) (still_several arranged.permutes several))
     scalar_alone rows several p (ends (own, arranged, same)) = absurd (no_fault same)
+
+-- ---- more of one outcome
+
+pub only_as : {A : Type 0} {p o : Outcome A} → p ≡ o → Only (just p) o
+only_as same = record { given = sym same; alone = λ q given. given ∙ same }
+
+first_alone : {A : Type 0} {m : Meaning A} {ms : List (Meaning A)} {f : FaultKind} {xs : List A} → Only m (Err f) → Only (Gather ms) (Ok xs) → (p : Outcome (List A)) → Gather (m ∷ ms) p → p ≡ Err f
+first_alone first rest p (all_give {values = []} each) = absurd each
+first_alone first rest p (all_give {values = y ∷ ys} each) = absurd (no_value (first.alone _ each.0))
+first_alone first rest p (one_faults (inl here)) = ap Err (same_fault (first.alone _ here))
+first_alone first rest p (one_faults (inr later)) = absurd (no_fault (rest.alone _ (one_faults later)))
+
+-- the first of several faults
+pub only_first_faults : {A : Type 0} {m : Meaning A} {ms : List (Meaning A)} {f : FaultKind} {xs : List A} → Only m (Err f) → Only (Gather ms) (Ok xs) → Only (Gather (m ∷ ms)) (Err f)
+only_first_faults first rest = record { given = one_faults (inl first.given); alone = first_alone first rest }
+
+-- ---- two outcomes and no other
+
+pub record Two {A : Type 0} (m : Meaning A) (o p : Outcome A) : Type 0 where
+  pub one : m o
+  pub other : m p
+  pub no_more : (q : Outcome A) → m q → (q ≡ o) ⊎ (q ≡ p)
+
+decided_no_more : {m n : Meaning Value} {f : FaultKind} → Only m (Ok (v.Bool false)) → Only n (Err f) → (q : Outcome Value) → Decided false (m ∷ n ∷ []) q → (q ≡ Ok (v.Bool false)) ⊎ (q ≡ Err f)
+decided_no_more first second q (all_valued [] each) = absurd each
+decided_no_more first second q (all_valued (x ∷ []) each) = absurd each.1
+decided_no_more first second q (all_valued (x ∷ y ∷ ys) each) = absurd (no_value (second.alone _ each.1.0))
+decided_no_more first second q (one_decides some) = inl refl
+decided_no_more first second q (one_of_faults (inl here)) = absurd (no_fault (first.alone _ here))
+decided_no_more first second q (one_of_faults (inr (inl there))) = inr (ap Err (same_fault (second.alone _ there)))
+decided_no_more first second q (one_of_faults (inr (inr none))) = absurd none
+
+-- FALSE and a fault under AND
+pub false_or_fault : {m n : Meaning Value} {f : FaultKind} → Only m (Ok (v.Bool false)) → Only n (Err f) → Two (Decided false (m ∷ n ∷ [])) (Ok (v.Bool false)) (Err f)
+false_or_fault first second = record {
+  one = one_decides (inl first.given);
+  other = one_of_faults (inr (inl second.given));
+  no_more = decided_no_more first second;
+}
