@@ -3,6 +3,7 @@ use Rattle.std.proofs.Common.{◌≡◌, Bool, true, false, List, ap, sym, ◌�
 use Rattle.sql_types.specs.declared.sql_type.SqlType.TheVariants.{outs-Bool as type-Bool, outs-Int32 as type-Int32, outs-Int64 as type-Int64, outs-Uint32 as type-Uint32, outs-Uint64 as type-Uint64, outs-Text as type-Text, outs-Bytes as type-Bytes, outs-Date as type-Date, outs-Array as type-Array, outs-Struct as type-Struct}
 use Rattle.sql_types.specs.declared.value.Value.TheVariants.{outs-Null as value-Null, outs-Bool as value-Bool, outs-Int as value-Int, outs-Uint as value-Uint, outs-Text as value-Text, outs-Bytes as value-Bytes, outs-Date as value-Date, outs-Array as value-Array, outs-Struct as value-Struct}
 use Rattle.sql_types.proofs.TypeOpens.{comparable_opens, same_opens}
+use Rattle.sql_types.proofs.ValueOpens.{equal_opens}
 use Rattle.sql_coerce.proofs.Opens.{converted-opens, castable-opens, other_coerces-opens, meet-opens}
 use Rattle.sql_coerce.specs.declared.arg.Arg.{Arg}
 use Rattle.sql_catalog.specs.declared.entries.Entries.{Entries}
@@ -82,7 +83,7 @@ pub ruleset types = (
 pub ruleset values = (
   value-Null, value-Bool, value-Int, value-Uint, value-Text, value-Bytes, value-Date, value-Array, value-Struct)
 
-pub ruleset opens = (converted-opens, castable-opens, other_coerces-opens, meet-opens, comparable_opens, same_opens)
+pub ruleset opens = (converted-opens, castable-opens, other_coerces-opens, meet-opens, comparable_opens, same_opens, equal_opens)
 
 pub ruleset typing = (type-expr, type-primary, type-term, type-from, type-joined, type-query, type-select, type-written)
 

@@ -136,7 +136,7 @@ still_several (permutes_skip more) several = still_some more several
 still_several permutes_swap several = tt
 still_several (permutes_then first second) several = still_several second (still_several first several)
 
-several_single : (rows : List Row) → Several rows → single rows ≡ Err fault.ScalarRows
+pub several_single : (rows : List Row) → Several rows → single rows ≡ Err fault.ScalarRows
 several_single [] several = absurd several
 several_single (row ∷ []) several = absurd several
 several_single (row ∷ other ∷ rows) several = refl
@@ -190,4 +190,17 @@ false_or_fault first second = record {
   one = one_decides (inl first.given);
   other = one_of_faults (inr (inl second.given));
   no_more = decided_no_more first second;
+}
+
+-- a query of rows in any order, under brackets
+scalar_alone_of : {m : Meaning (List Row)} {rows : List Row} → Only m (Ok rows) → Several rows → (p : Outcome Value) → (m >>= in_any_order >>= (λ list. just (single list))) p → p ≡ Err fault.ScalarRows
+scalar_alone_of {rows = rows} first several p (goes_on {x = list} (goes_on given ordered) more) =
+    (scalar_rows rows several).alone p (goes_on (subst (λ r. in_any_order r (Ok list)) (same_value (first.alone _ given)) ordered) more)
+scalar_alone_of first several p (ends (goes_on given ordered)) = absurd (no_fault ordered.2)
+scalar_alone_of first several p (ends (ends given)) = absurd (no_fault (first.alone _ given))
+
+pub scalar_of : {m : Meaning (List Row)} {rows : List Row} → Only m (Ok rows) → Several rows → Only (m >>= in_any_order >>= (λ list. just (single list))) (Err fault.ScalarRows)
+scalar_of {rows = rows} first several = record {
+  given = goes_on (goes_on first.given (rows, arranged_refl _, refl)) (sym (several_single rows several));
+  alone = scalar_alone_of first several;
 }

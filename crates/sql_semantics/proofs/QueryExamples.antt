@@ -1,23 +1,33 @@
 -- Worked examples of meaning: whole queries with the rows that they permit.
-use Rattle.std.proofs.Common.{◌≡◌, ℕ, pos, Bool, true, false, List, [], ◌∷◌, codes, Option, None, Some, Ok, Err, inl, inr, refl}
+use Rattle.std.proofs.Common.{◌≡◌, ℕ, pos, Bool, true, false, List, [], ◌∷◌, codes, slice_get, Option, None, Some, Ok, Err, inl, inr, refl}
 use Rattle.sql_types.specs.declared.fault.FaultKind.TheVariants as fault
 use Rattle.sql_types.specs.declared.sql_type.SqlType.TheVariants as ty
 use Rattle.sql_types.specs.declared.value.Value.{Value}
 use Rattle.sql_types.specs.declared.value.Value.TheVariants as v
-use Rattle.sql_types.specs.Outcome.{Outcome, Meaning, gives, just, ◌>>=◌}
+use Rattle.sql_types.specs.Outcome.{Outcome, Meaning, gives, just, ◌>>=◌, Gather}
 use Rattle.sql_ast.specs.declared.expr.Expr.{Expr}
 use Rattle.sql_ast.specs.declared.expr.Expr.TheVariants as e
 use Rattle.sql_ast.specs.declared.query.Query.{Query}
+use Rattle.sql_ast.specs.declared.query.JoinWord.TheVariants as join
 use Rattle.sql_ast.specs.declared.query.Select.{Select}
+use Rattle.sql_rules.specs.declared.scope.Entry.{Entry}
+use Rattle.sql_rules.specs.declared.scope.Binding.{Binding}
+use Rattle.sql_rules.specs.declared.scope.Found.TheVariants.{Bound}
 use Rattle.sql_rules.specs.Scopes.{found}
-use Rattle.sql_semantics.specs.Environments.{Row, Frame, Env, empty_env}
-use Rattle.sql_semantics.specs.MeansLayers.{TableRows}
+use Rattle.sql_semantics.specs.Environments.{Row, Frame, Env, CteOutcome, empty_env, Reads}
+use Rattle.sql_semantics.specs.MeansLayers.{TableRows, all_of}
 use Rattle.sql_semantics.specs.Meanings.{MeansExpr, MeansSelect, MeansQuery}
-use Rattle.sql_semantics.proofs.Trees.{column, table, only, select_from, select_of}
+use Rattle.sql_semantics.proofs.Trees.{named, column, table, only, select_from, select_of, select_only, as_name, star, from_items, subquery, join_using}
 use Rattle.sql_semantics.proofs.SmallCatalog.{three_tables, three_rows}
 use Rattle.sql_semantics.proofs.Computing.{trees, types, values, opens, typing}
-use Rattle.sql_semantics.proofs.OnlyLaws.{Only, only_as, only_just, only_then, only_fault, only_nothing, only_more, only_reads, scalar_rows}
+use Rattle.sql_semantics.proofs.OnlyLaws.{Only, only_as, only_just, only_then, only_fault, only_nothing, only_more, only_reads, scalar_of}
 use Rattle.sql_semantics.proofs.Evaluating.{meaning}
+
+-- a select list of one name, which is the first column of the only scope
+first_column : (ctes : List CteOutcome) (used : ℕ) {scope : List Entry} {x : Value} {more : List Value} →
+    Only (Gather ((Reads (record { frames = record { scope = scope; values = x ∷ more } ∷ []; ctes = ctes }) (Bound (record { level = 0; slot = 0; used = used })) >>= (λ y. gives (y ∷ []))) ∷ []) >>= (λ values. gives (all_of values))) (Ok (x ∷ []))
+first_column ctes used {scope = scope} {x = x} {more = more} =
+    only_then (only_more (only_then (only_reads (record { frames = record { scope = scope; values = x ∷ more } ∷ []; ctes = ctes }) (record { level = 0; slot = 0; used = used }) (record { scope = scope; values = x ∷ more }) x refl refl) (only_just (Ok (x ∷ [])))) only_nothing) (only_just _)
 
 -- `SELECT a FROM t`
 abbrev a_of_t : Select
@@ -25,4 +35,23 @@ a_of_t = select_of 0 (column (codes "a") 7 ∷ []) (Some (only 14 (table (codes 
 
 a_rows : Only (MeansSelect three_tables [] [] three_rows [] a_of_t empty_env) (Ok ((v.Int (pos 1) ∷ []) ∷ (v.Int (pos 2) ∷ []) ∷ (v.Int (pos 2) ∷ []) ∷ (v.Null ∷ []) ∷ []))
 unfolding found
-a_rows = simp (meaning, typing, trees) ?
+a_rows =
+    simp (meaning, typing, trees)
+    (only_then (only_then (only_just _) (only_just _)) (only_then (only_just _) (only_then (only_more (first_column [] 1) (only_more (first_column [] 1) (only_more (first_column [] 1) (only_more (first_column [] 1) only_nothing)))) (only_just _))))
+
+-- `SELECT (SELECT a FROM t)`
+scalar_faults : Only (MeansExpr three_tables [] [] three_rows [] (e.Scalar (select_from 8 (column (codes "a") 15 ∷ []) (only 22 (table (codes "t") 22))) 7) empty_env) (Err fault.ScalarRows)
+unfolding found
+scalar_faults =
+    simp (meaning, typing, trees)
+    (scalar_of (only_then (only_then (only_just _) (only_just _)) (only_then (only_just _) (only_then (only_more (first_column [] 1) (only_more (first_column [] 1) (only_more (first_column [] 1) (only_more (first_column [] 1) only_nothing)))) (only_just _)))) tt)
+
+-- `SELECT * FROM (SELECT 1 AS k, 10 AS x) FULL JOIN (SELECT 2 AS k, 20 AS y) USING (k)`
+abbrev full_of : Select
+full_of = select_of 0 (star 7 ∷ []) (Some (from_items 14 (subquery (select_only 15 (as_name (e.Integer 1 22) 22 (codes "k") 27 ∷ as_name (e.Integer 10 30) 30 (codes "x") 36 ∷ [])) 14)
+    (join_using join.Full 39 (subquery (select_only 50 (as_name (e.Integer 2 57) 57 (codes "k") 62 ∷ as_name (e.Integer 20 65) 65 (codes "y") 71 ∷ [])) 49) (named (codes "k") 81 ∷ []) 74 ∷ []))) None
+
+full_rows : Only (MeansSelect three_tables [] [] three_rows [] full_of empty_env)
+    (Ok ((v.Int (pos 1) ∷ v.Int (pos 10) ∷ v.Null ∷ []) ∷ (v.Int (pos 2) ∷ v.Null ∷ v.Int (pos 20) ∷ []) ∷ []))
+unfolding found
+full_rows = simp (meaning, typing, trees, opens, types, values) ?
