@@ -11,5 +11,5 @@ mod FaultyExamples
 mod ScopeExamples
 pub mod OnlyLaws
 pub mod Evaluating
-mod MeantExamples
+pub mod MeantExamples
 mod QueryExamples
