@@ -13,3 +13,4 @@ pub mod OnlyLaws
 pub mod Evaluating
 pub mod MeantExamples
 mod QueryExamples
+mod NameExamples

@@ -6,6 +6,8 @@ use Rattle.sql_types.specs.declared.sql_type.SqlType.TheVariants as ty
 use Rattle.sql_types.specs.declared.value.Value.{Value}
 use Rattle.sql_types.specs.declared.value.Value.TheVariants as v
 use Rattle.sql_types.specs.Outcome.{Outcome, Meaning, gives, just, ◌>>=◌, Gather}
+use Rattle.sql_coerce.specs.Casts.{converted}
+use Rattle.sql_ast.specs.declared.clauses.Item.{Item}
 use Rattle.sql_ast.specs.declared.expr.Expr.{Expr}
 use Rattle.sql_ast.specs.declared.expr.Expr.TheVariants as e
 use Rattle.sql_ast.specs.declared.query.Query.{Query}
@@ -16,10 +18,11 @@ use Rattle.sql_rules.specs.declared.scope.Binding.{Binding}
 use Rattle.sql_rules.specs.declared.scope.Found.TheVariants.{Bound}
 use Rattle.sql_rules.specs.Scopes.{found}
 use Rattle.sql_semantics.specs.Environments.{Row, Frame, Env, CteOutcome, empty_env, Reads}
+use Rattle.sql_semantics.specs.MeansForms.{is_true}
 use Rattle.sql_semantics.specs.MeansFroms.{in_common, using_value}
 use Rattle.sql_semantics.specs.MeansLayers.{TableRows, all_of}
 use Rattle.sql_semantics.specs.Meanings.{MeansExpr, MeansSelect, MeansQuery}
-use Rattle.sql_semantics.proofs.Trees.{named, column, table, only, select_from, select_of, select_only, as_name, star, from_items, subquery, join_using, join_on}
+use Rattle.sql_semantics.proofs.Trees.{named, plain, column, table, only, select_from, select_of, select_only, as_name, star, from_items, subquery, join_using, join_on}
 use Rattle.sql_semantics.proofs.SmallCatalog.{three_tables, three_rows}
 use Rattle.sql_semantics.proofs.Computing.{trees, types, values, opens, typing}
 use Rattle.sql_semantics.proofs.OnlyLaws.{Only, only_as, only_just, only_then, only_fault, only_nothing, only_more, only_both, only_row, only_reads, scalar_of}
@@ -76,6 +79,9 @@ full_rows =
 
 -- ---- joins
 
+null_truth : converted ty.Int64 ty.Bool v.Null ≡ Ok v.Null
+null_truth = simp (opens, types, values)
+
 -- `SELECT * FROM (SELECT 1 AS x) LEFT JOIN (SELECT 2 AS y) ON FALSE`: the left row stands with NULL
 abbrev left_of : Select
 left_of = select_of 0 (star 7 ∷ []) (Some (from_items 14 (subquery (select_only 15 (as_name (e.Integer 1 22) 22 (codes "x") 27 ∷ [])) 14)
@@ -89,5 +95,21 @@ left_rows =
     (only_then (only_both
     (only_then (only_then (only_then (only_just _) (only_then (only_just _) (only_then (only_more (only_then (only_more (only_then (only_just _) (only_just _)) only_nothing) (only_just _)) only_nothing) (only_just _)))) (only_row _)) (only_just _))
     (only_then (only_then (only_then (only_just _) (only_then (only_just _) (only_then (only_more (only_then (only_more (only_then (only_just _) (only_just _)) only_nothing) (only_just _)) only_nothing) (only_just _)))) (only_row _)) (only_just _)))
-    (only_then (only_then (only_then (only_both (only_then (only_more (only_then (simp (meaning, trees) (only_just _)) (only_as (same_truth false))) only_nothing) (only_just _)) (only_just _)) (only_just _)) (only_just _)) (only_as {o = Ok ((v.Int (pos 1) ∷ v.Null ∷ []) ∷ [])} (simp values))))
+    (only_then (only_then (only_then (only_both (only_more {x = v.Bool false} (simp (meaning, typing, trees) (only_then (only_just _) (only_as (same_truth false)))) only_nothing) (only_just _)) (only_just _)) (only_as {o = Ok ((false ∷ []) ∷ [])} (simp (is_true, values)))) (only_as {o = Ok ((v.Int (pos 1) ∷ v.Null ∷ []) ∷ [])} refl)))
     (only_then (only_just _) (only_then (only_more (only_then (only_more (only_then only_nothing (only_just _)) only_nothing) (only_just _)) only_nothing) (only_just _))))
+
+-- `SELECT * FROM (SELECT 1 AS x) INNER JOIN (SELECT 2 AS y) ON NULL`: a condition that is NULL keeps no pair
+abbrev inner_of : Select
+inner_of = select_of 0 (star 7 ∷ []) (Some (from_items 14 (subquery (select_only 15 (as_name (e.Integer 1 22) 22 (codes "x") 27 ∷ [])) 14)
+    (join_on join.Inner 30 (subquery (select_only 42 (as_name (e.Integer 2 49) 49 (codes "y") 54 ∷ [])) 41) (e.Null 60) 57 ∷ []))) None
+
+no_rows : Only (MeansSelect three_tables [] [] three_rows [] inner_of empty_env) (Ok [])
+unfolding found
+no_rows =
+    simp (meaning, typing, trees, opens, types, values)
+    (only_then
+    (only_then (only_both
+    (only_then (only_then (only_then (only_just _) (only_then (only_just _) (only_then (only_more (only_then (only_more (only_then (only_just _) (only_just _)) only_nothing) (only_just _)) only_nothing) (only_just _)))) (only_row _)) (only_just _))
+    (only_then (only_then (only_then (only_just _) (only_then (only_just _) (only_then (only_more (only_then (only_more (only_then (only_just _) (only_just _)) only_nothing) (only_just _)) only_nothing) (only_just _)))) (only_row _)) (only_just _)))
+    (only_then (only_then (only_then (only_both (only_more {x = v.Null} (simp (meaning, typing, trees) (only_then (only_just _) (only_as null_truth))) only_nothing) (only_just _)) (only_just _)) (only_as {o = Ok ((false ∷ []) ∷ [])} (simp (is_true, values)))) (only_as {o = Ok []} refl)))
+    (only_then (only_just _) (only_then only_nothing (only_just _))))
