@@ -11,6 +11,7 @@ use Rattle.sql_ast.specs.declared.clauses.Item.{Item}
 use Rattle.sql_ast.specs.declared.expr.Expr.{Expr}
 use Rattle.sql_ast.specs.declared.expr.Expr.TheVariants as e
 use Rattle.sql_ast.specs.declared.query.Query.{Query}
+use Rattle.sql_ast.specs.declared.query.Term.TheVariants as term
 use Rattle.sql_ast.specs.declared.query.JoinWord.TheVariants as join
 use Rattle.sql_ast.specs.declared.query.Select.{Select}
 use Rattle.sql_rules.specs.declared.scope.Entry.{Entry}
@@ -20,24 +21,25 @@ use Rattle.sql_rules.specs.Scopes.{found}
 use Rattle.sql_semantics.specs.Environments.{Row, Frame, Env, CteOutcome, empty_env, Reads}
 use Rattle.sql_semantics.specs.MeansForms.{is_true}
 use Rattle.sql_semantics.specs.MeansFroms.{in_common, using_value}
-use Rattle.sql_semantics.specs.MeansLayers.{TableRows, all_of}
+use Rattle.sql_semantics.specs.MeansLayers.{TableRows, all_of, no_frame}
 use Rattle.sql_semantics.specs.Meanings.{MeansExpr, MeansSelect, MeansQuery}
-use Rattle.sql_semantics.proofs.Trees.{named, plain, column, table, only, select_from, select_of, select_only, as_name, star, from_items, subquery, join_using, join_on}
+use Rattle.sql_semantics.proofs.Trees.{both, call, equals, field, table_as, comma, query_of, named, plain, column, table, only, select_from, select_of, select_only, as_name, star, from_items, subquery, join_using, join_on}
 use Rattle.sql_semantics.proofs.SmallCatalog.{three_tables, three_rows}
 use Rattle.sql_semantics.proofs.Computing.{trees, types, values, opens, typing}
-use Rattle.sql_semantics.proofs.OnlyLaws.{Only, only_as, only_just, only_then, only_fault, only_nothing, only_more, only_both, only_row, only_reads, scalar_of}
+use Rattle.sql_semantics.proofs.OnlyLaws.{Only, Two, only_as, only_just, only_then, only_fault, only_nothing, only_more, only_both, only_row, only_reads, scalar_of}
+use Rattle.sql_semantics.proofs.ChoiceExamples.{error_of, equal_untyped, iserror_truth, and_of}
 use Rattle.sql_semantics.proofs.Evaluating.{meaning}
 use Rattle.sql_semantics.proofs.MeantExamples.{same_truth}
 
 -- the first column of the inner scope, and the second one of the outer
-inner_first : (ctes : List CteOutcome) (used : ℕ) {outer : Frame} {scope : List Entry} {x : Value} {more : List Value} →
+inner_first : (outer : Frame) (ctes : List CteOutcome) (used : ℕ) {scope : List Entry} {x : Value} {more : List Value} →
     Only (Reads (record { frames = outer ∷ record { scope = scope; values = x ∷ more } ∷ []; ctes = ctes }) (Bound (record { level = 1; slot = 0; used = used }))) (Ok x)
-inner_first ctes used {outer = outer} {scope = scope} {x = x} {more = more} =
+inner_first outer ctes used {scope = scope} {x = x} {more = more} =
     only_reads (record { frames = outer ∷ record { scope = scope; values = x ∷ more } ∷ []; ctes = ctes }) (record { level = 1; slot = 0; used = used }) (record { scope = scope; values = x ∷ more }) x refl refl
 
-outer_second : (ctes : List CteOutcome) (used : ℕ) {inner : Frame} {scope : List Entry} {w x : Value} {more : List Value} →
+outer_second : (inner : Frame) (ctes : List CteOutcome) (used : ℕ) {scope : List Entry} {w x : Value} {more : List Value} →
     Only (Reads (record { frames = record { scope = scope; values = w ∷ x ∷ more } ∷ inner ∷ []; ctes = ctes }) (Bound (record { level = 0; slot = 1; used = used }))) (Ok x)
-outer_second ctes used {inner = inner} {scope = scope} {w = w} {x = x} {more = more} =
+outer_second inner ctes used {scope = scope} {w = w} {x = x} {more = more} =
     only_reads (record { frames = record { scope = scope; values = w ∷ x ∷ more } ∷ inner ∷ []; ctes = ctes }) (record { level = 0; slot = 1; used = used }) (record { scope = scope; values = w ∷ x ∷ more }) x refl refl
 
 -- one row in t
@@ -53,7 +55,7 @@ unfolding found
 inner_name =
     simp (meaning, typing, trees)
     (only_then (only_then (only_just _) (only_just _)) (only_then (only_just _) (only_then (only_more (only_then (only_more (only_then (only_then (only_then
-    (only_then (only_then (only_then (only_then (only_just _) (only_then (only_just _) (only_then (only_more (only_then (only_more (only_then (only_just _) (only_just _)) only_nothing) (only_just _)) only_nothing) (only_just _)))) (only_row _)) (only_just _)) (only_then (only_just _) (only_then (only_more (only_then (only_more (only_then (inner_first [] 1) (only_just _)) only_nothing) (only_just _)) only_nothing) (only_just _))))
+    (only_then (only_then (only_then (only_then (only_just _) (only_then (only_just _) (only_then (only_more (only_then (only_more (only_then (only_just _) (only_just _)) only_nothing) (only_just _)) only_nothing) (only_just _)))) (only_row _)) (only_just _)) (only_then (only_just _) (only_then (only_more (only_then (only_more (only_then (inner_first no_frame [] 1) (only_just _)) only_nothing) (only_just _)) only_nothing) (only_just _))))
     (only_row _)) (only_just _)) (only_just _)) only_nothing) (only_just _)) only_nothing) (only_just _))))
 
 -- `SELECT (SELECT b FROM (SELECT 7 AS a)) FROM t`: a name that the inner scope lacks is the outer row's
@@ -62,5 +64,22 @@ unfolding found
 outer_name =
     simp (meaning, typing, trees)
     (only_then (only_then (only_just _) (only_just _)) (only_then (only_just _) (only_then (only_more (only_then (only_more (only_then (only_then (only_then
-    (only_then (only_then (only_then (only_then (only_just _) (only_then (only_just _) (only_then (only_more (only_then (only_more (only_then (only_just _) (only_just _)) only_nothing) (only_just _)) only_nothing) (only_just _)))) (only_row _)) (only_just _)) (only_then (only_just _) (only_then (only_more (only_then (only_more (only_then (outer_second [] 1) (only_just _)) only_nothing) (only_just _)) only_nothing) (only_just _))))
+    (only_then (only_then (only_then (only_then (only_just _) (only_then (only_just _) (only_then (only_more (only_then (only_more (only_then (only_just _) (only_just _)) only_nothing) (only_just _)) only_nothing) (only_just _)))) (only_row _)) (only_just _)) (only_then (only_just _) (only_then (only_more (only_then (only_more (only_then (outer_second no_frame [] 1) (only_just _)) only_nothing) (only_just _)) only_nothing) (only_just _))))
     (only_row _)) (only_just _)) (only_just _)) only_nothing) (only_just _)) only_nothing) (only_just _))))
+
+-- ---- one outcome of a CTE
+
+-- `WITH c AS (SELECT ISERROR(FALSE AND ERROR('x') = 1) AS v) SELECT l.v, r.v FROM c AS l, c AS r`
+abbrev undecided : Query
+undecided = select_only 11 (as_name (call (codes "ISERROR") (both 26 (e.Bool false 26) 32 (equals 36 (call (codes "ERROR") (e.Text (codes "x") 42 ∷ []) 36) 47 (e.Integer 1 49)) ∷ []) 18) 18 (codes "v") 55 ∷ [])
+
+abbrev read_twice : Query
+read_twice = query_of 0 (record { name = named (codes "c") 5; query = undecided } ∷ []) (term.Select (select_of 58
+    (plain (field 65 (e.Name (codes "l") 65) (codes "v") 67) 65 ∷ plain (field 70 (e.Name (codes "r") 70) (codes "v") 72) 70 ∷ [])
+    (Some (from_items 79 (table_as (codes "c") 79 (codes "l") 84) (comma 85 (table_as (codes "c") 87 (codes "r") 92) ∷ []))) None))
+
+-- the CTE's query may give either truth value, and both readers have the same
+same_twice : Two (MeansQuery three_tables [] [] one_row [] read_twice empty_env)
+    (Ok ((v.Bool false ∷ v.Bool false ∷ []) ∷ [])) (Ok ((v.Bool true ∷ v.Bool true ∷ []) ∷ []))
+unfolding found
+same_twice = simp (meaning, typing, trees, error_of, equal_untyped, iserror_truth, and_of) ?
