@@ -10,7 +10,9 @@ mod RefusedExamples
 mod FaultyExamples
 mod ScopeExamples
 pub mod OnlyLaws
+pub mod TwoLaws
 pub mod Evaluating
 pub mod MeantExamples
 mod QueryExamples
 mod NameExamples
+mod CteExamples

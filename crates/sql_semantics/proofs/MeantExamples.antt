@@ -14,7 +14,8 @@ use Rattle.sql_semantics.proofs.Trees.{both, equals, call}
 use Rattle.sql_semantics.proofs.SmallCatalog.{three_tables, three_rows}
 use Rattle.sql_semantics.proofs.Computing.{trees, types, values, opens, typing}
 use Rattle.sql_semantics.proofs.ChoiceExamples.{equal_untyped, error_of}
-use Rattle.sql_semantics.proofs.OnlyLaws.{Only, Two, only_as, only_first_faults, false_or_fault, only_just, only_then, only_fault, only_nothing, only_more}
+use Rattle.sql_semantics.proofs.OnlyLaws.{Only, only_as, only_first_faults, only_just, only_then, only_fault, only_nothing, only_more}
+use Rattle.sql_semantics.proofs.TwoLaws.{Two, false_or_fault}
 use Rattle.sql_semantics.proofs.Evaluating.{meaning}
 
 -- what an expression permits over these tables, with nothing in sight
@@ -41,16 +42,16 @@ abbrev error_is_one : Expr
 error_is_one = equals 17 error_x 28 (e.Integer 1 30)
 
 -- a call of ERROR, as its row says it
-error_row : (text : List ℕ) → Only {A = Value} (Gather ((gives (v.Text text) >>= (λ x. just (converted ty.Text ty.Text x))) ∷ []) >>= (λ xs. just (Err fault.User))) (Err fault.User)
+pub error_row : (text : List ℕ) → Only {A = Value} (Gather ((gives (v.Text text) >>= (λ x. just (converted ty.Text ty.Text x))) ∷ []) >>= (λ xs. just (Err fault.User))) (Err fault.User)
 error_row text = only_then (only_more (only_then (only_just _) (only_as (same_text text))) only_nothing) (only_just _)
 
 always_user : Only (means error_x) (Err fault.User)
 always_user = simp (meaning, typing, trees, error_of) (error_row _)
 
-abbrev number_one : Meaning Value
+abbrev pub number_one : Meaning Value
 number_one = gives (v.Int (pos 1)) >>= (λ x. just (converted ty.Int64 ty.Int64 x))
 
-only_one : Only number_one (Ok (v.Int (pos 1)))
+pub only_one : Only number_one (Ok (v.Int (pos 1)))
 only_one = only_then (only_just _) (only_as same_one)
 
 faulty_equation : Only (means error_is_one) (Err fault.User)

@@ -26,7 +26,7 @@ use Rattle.sql_semantics.specs.Meanings.{MeansExpr, MeansSelect, MeansQuery}
 use Rattle.sql_semantics.proofs.Trees.{both, call, equals, field, table_as, comma, query_of, named, plain, column, table, only, select_from, select_of, select_only, as_name, star, from_items, subquery, join_using, join_on}
 use Rattle.sql_semantics.proofs.SmallCatalog.{three_tables, three_rows}
 use Rattle.sql_semantics.proofs.Computing.{trees, types, values, opens, typing}
-use Rattle.sql_semantics.proofs.OnlyLaws.{Only, Two, only_as, only_just, only_then, only_fault, only_nothing, only_more, only_both, only_row, only_reads, scalar_of}
+use Rattle.sql_semantics.proofs.OnlyLaws.{Only, only_as, only_just, only_then, only_fault, only_nothing, only_more, only_both, only_row, only_reads, scalar_of}
 use Rattle.sql_semantics.proofs.ChoiceExamples.{error_of, equal_untyped, iserror_truth, and_of}
 use Rattle.sql_semantics.proofs.Evaluating.{meaning}
 use Rattle.sql_semantics.proofs.MeantExamples.{same_truth}
@@ -66,20 +66,3 @@ outer_name =
     (only_then (only_then (only_just _) (only_just _)) (only_then (only_just _) (only_then (only_more (only_then (only_more (only_then (only_then (only_then
     (only_then (only_then (only_then (only_then (only_just _) (only_then (only_just _) (only_then (only_more (only_then (only_more (only_then (only_just _) (only_just _)) only_nothing) (only_just _)) only_nothing) (only_just _)))) (only_row _)) (only_just _)) (only_then (only_just _) (only_then (only_more (only_then (only_more (only_then (outer_second no_frame [] 1) (only_just _)) only_nothing) (only_just _)) only_nothing) (only_just _))))
     (only_row _)) (only_just _)) (only_just _)) only_nothing) (only_just _)) only_nothing) (only_just _))))
-
--- ---- one outcome of a CTE
-
--- `WITH c AS (SELECT ISERROR(FALSE AND ERROR('x') = 1) AS v) SELECT l.v, r.v FROM c AS l, c AS r`
-abbrev undecided : Query
-undecided = select_only 11 (as_name (call (codes "ISERROR") (both 26 (e.Bool false 26) 32 (equals 36 (call (codes "ERROR") (e.Text (codes "x") 42 ∷ []) 36) 47 (e.Integer 1 49)) ∷ []) 18) 18 (codes "v") 55 ∷ [])
-
-abbrev read_twice : Query
-read_twice = query_of 0 (record { name = named (codes "c") 5; query = undecided } ∷ []) (term.Select (select_of 58
-    (plain (field 65 (e.Name (codes "l") 65) (codes "v") 67) 65 ∷ plain (field 70 (e.Name (codes "r") 70) (codes "v") 72) 70 ∷ [])
-    (Some (from_items 79 (table_as (codes "c") 79 (codes "l") 84) (comma 85 (table_as (codes "c") 87 (codes "r") 92) ∷ []))) None))
-
--- the CTE's query may give either truth value, and both readers have the same
-same_twice : Two (MeansQuery three_tables [] [] one_row [] read_twice empty_env)
-    (Ok ((v.Bool false ∷ v.Bool false ∷ []) ∷ [])) (Ok ((v.Bool true ∷ v.Bool true ∷ []) ∷ []))
-unfolding found
-same_twice = simp (meaning, typing, trees, error_of, equal_untyped, iserror_truth, and_of) ?

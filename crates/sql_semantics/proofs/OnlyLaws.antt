@@ -3,8 +3,6 @@ use Rattle.std.proofs.Common.{◌≡◌, ◌⊎◌, ℕ, Bool, false, List, [], 
 use Rattle.sql_types.specs.declared.fault.FaultKind.{FaultKind}
 use Rattle.sql_types.specs.declared.fault.FaultKind.TheVariants as fault
 use Rattle.sql_types.specs.declared.value.Value.{Value}
-use Rattle.sql_types.specs.declared.value.Value.TheVariants as v
-use Rattle.sql_types.specs.Logic.{Decided, all_valued, one_decides, one_of_faults}
 use Rattle.sql_types.specs.Arranged.{Arranged, Permutes, permutes_none, permutes_skip, permutes_swap, permutes_then}
 use Rattle.sql_types.specs.Outcome.{Outcome, Meaning, gives, just, ◌>>=◌, goes_on, ends, EachGives, SomeFaults, Gather, all_give, one_faults, Both, both_give, left_faults, right_faults}
 use Rattle.sql_types.proofs.Orders.{arranged_refl}
@@ -21,16 +19,16 @@ pub record Only {A : Type 0} (m : Meaning A) (o : Outcome A) : Type 0 where
 pub only_just : {A : Type 0} (o : Outcome A) → Only (just o) o
 only_just o = record { given = refl; alone = λ p same. same }
 
-same_value : {A : Type 0} {x y : A} → ◌≡◌ {A = Outcome A} (Ok x) (Ok y) → x ≡ y
+pub same_value : {A : Type 0} {x y : A} → ◌≡◌ {A = Outcome A} (Ok x) (Ok y) → x ≡ y
 same_value same = cc
 
-same_fault : {A : Type 0} {f g : FaultKind} → ◌≡◌ {A = Outcome A} (Err f) (Err g) → f ≡ g
+pub same_fault : {A : Type 0} {f g : FaultKind} → ◌≡◌ {A = Outcome A} (Err f) (Err g) → f ≡ g
 same_fault same = cc
 
-no_value : {A : Type 0} {x : A} {f : FaultKind} → ◌≡◌ {A = Outcome A} (Ok x) (Err f) → ⊥
+pub no_value : {A : Type 0} {x : A} {f : FaultKind} → ◌≡◌ {A = Outcome A} (Ok x) (Err f) → ⊥
 no_value same = cc
 
-no_fault : {A : Type 0} {x : A} {f : FaultKind} → ◌≡◌ {A = Outcome A} (Err f) (Ok x) → ⊥
+pub no_fault : {A : Type 0} {x : A} {f : FaultKind} → ◌≡◌ {A = Outcome A} (Err f) (Ok x) → ⊥
 no_fault same = cc
 
 -- ---- one after another
@@ -167,30 +165,6 @@ first_alone first rest p (one_faults (inr later)) = absurd (no_fault (rest.alone
 -- the first of several faults
 pub only_first_faults : {A : Type 0} {m : Meaning A} {ms : List (Meaning A)} {f : FaultKind} {xs : List A} → Only m (Err f) → Only (Gather ms) (Ok xs) → Only (Gather (m ∷ ms)) (Err f)
 only_first_faults first rest = record { given = one_faults (inl first.given); alone = first_alone first rest }
-
--- ---- two outcomes and no other
-
-pub record Two {A : Type 0} (m : Meaning A) (o p : Outcome A) : Type 0 where
-  pub one : m o
-  pub other : m p
-  pub no_more : (q : Outcome A) → m q → (q ≡ o) ⊎ (q ≡ p)
-
-decided_no_more : {m n : Meaning Value} {f : FaultKind} → Only m (Ok (v.Bool false)) → Only n (Err f) → (q : Outcome Value) → Decided false (m ∷ n ∷ []) q → (q ≡ Ok (v.Bool false)) ⊎ (q ≡ Err f)
-decided_no_more first second q (all_valued [] each) = absurd each
-decided_no_more first second q (all_valued (x ∷ []) each) = absurd each.1
-decided_no_more first second q (all_valued (x ∷ y ∷ ys) each) = absurd (no_value (second.alone _ each.1.0))
-decided_no_more first second q (one_decides some) = inl refl
-decided_no_more first second q (one_of_faults (inl here)) = absurd (no_fault (first.alone _ here))
-decided_no_more first second q (one_of_faults (inr (inl there))) = inr (ap Err (same_fault (second.alone _ there)))
-decided_no_more first second q (one_of_faults (inr (inr none))) = absurd none
-
--- FALSE and a fault under AND
-pub false_or_fault : {m n : Meaning Value} {f : FaultKind} → Only m (Ok (v.Bool false)) → Only n (Err f) → Two (Decided false (m ∷ n ∷ [])) (Ok (v.Bool false)) (Err f)
-false_or_fault first second = record {
-  one = one_decides (inl first.given);
-  other = one_of_faults (inr (inl second.given));
-  no_more = decided_no_more first second;
-}
 
 -- a query of rows in any order, under brackets
 scalar_alone_of : {m : Meaning (List Row)} {rows : List Row} → Only m (Ok rows) → Several rows → (p : Outcome Value) → (m >>= in_any_order >>= (λ list. just (single list))) p → p ≡ Err fault.ScalarRows
