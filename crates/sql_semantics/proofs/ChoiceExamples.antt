@@ -118,3 +118,7 @@ plus_columns = simp (opens, types)
 pub extract_week : (day : ℤ) → chosen (codes "EXTRACT") (word (codes "WEEK") ∷ record { ty = Some ty.Date; kind = kind.Literal (v.Date day) } ∷ []) ≡ row sig.Extract (ty.Text ∷ ty.Date ∷ []) ty.Int64
 unfolding chosen
 extract_week day = simp (opens, types, values)
+
+pub plus_text : chosen (codes "+") (other_arg ty.Text ∷ number (pos 1) ∷ []) ≡ None
+unfolding chosen
+plus_text = simp (opens, types, values)

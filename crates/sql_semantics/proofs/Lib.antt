@@ -16,3 +16,4 @@ pub mod MeantExamples
 mod QueryExamples
 mod NameExamples
 mod CteExamples
+mod CatalogExamples
