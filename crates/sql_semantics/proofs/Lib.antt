@@ -17,3 +17,4 @@ mod QueryExamples
 mod NameExamples
 mod CteExamples
 mod CatalogExamples
+mod ValueExamples
