@@ -1,5 +1,5 @@
 -- Worked examples of typing over a catalog with a function, and of a form that isn't built.
-use Rattle.std.proofs.Common.{◌≡◌, ◌∙◌, ap, ℕ, pos, Bool, true, false, List, [], ◌∷◌, codes, Option, None, Some, Ok, Err}
+use Rattle.std.proofs.Common.{◌≡◌, ℕ, true, false, List, [], ◌∷◌, codes, Option, None, Ok, Err}
 use Rattle.sql_types.specs.declared.sql_type.SqlType.TheVariants as ty
 use Rattle.sql_ast.specs.declared.clauses.Sort.{Sort}
 use Rattle.sql_ast.specs.declared.clauses.LimitPart.{LimitPart}
@@ -7,11 +7,10 @@ use Rattle.sql_ast.specs.declared.expr.Expr.{Expr}
 use Rattle.sql_ast.specs.declared.expr.Expr.TheVariants as e
 use Rattle.sql_ast.specs.declared.expr.Operator.TheVariants as operator
 use Rattle.sql_ast.specs.declared.query.Cte.{Cte}
-use Rattle.sql_ast.specs.declared.query.Query.{Query, roll-Query, out-Query, out-roll-Query}
+use Rattle.sql_ast.specs.declared.query.Query.{Query, roll-Query, out-roll-Query}
 use Rattle.sql_ast.specs.declared.query.Term.{Term}
-use Rattle.sql_catalog.specs.declared.entries.Definition.TheVariants.{View, Function}
+use Rattle.sql_catalog.specs.declared.entries.Definition.TheVariants.{Function}
 use Rattle.sql_catalog.specs.declared.entries.Entries.{Entries}
-use Rattle.sql_catalog.specs.declared.entries.FunctionDef.{FunctionDef}
 use Rattle.sql_catalog.specs.declared.entries.Written.TheVariants as written
 use Rattle.sql_rules.specs.Scopes.{found}
 use Rattle.sql_semantics.specs.Unbuilt.{unbuilt_query, unbuilt_expr}

@@ -1,11 +1,10 @@
 -- The equations by which worked examples are computed: one step each of typing, of the trees, of types and of values.
-use Rattle.std.proofs.Common.{◌≡◌, Bool, true, false, List, ap, sym, ◌∙◌}
+use Rattle.std.proofs.Common.{◌≡◌, true, false, List, ap}
 use Rattle.sql_types.specs.declared.sql_type.SqlType.TheVariants.{outs-Bool as type-Bool, outs-Int32 as type-Int32, outs-Int64 as type-Int64, outs-Uint32 as type-Uint32, outs-Uint64 as type-Uint64, outs-Text as type-Text, outs-Bytes as type-Bytes, outs-Date as type-Date, outs-Array as type-Array, outs-Struct as type-Struct}
 use Rattle.sql_types.specs.declared.value.Value.TheVariants.{outs-Null as value-Null, outs-Bool as value-Bool, outs-Int as value-Int, outs-Uint as value-Uint, outs-Text as value-Text, outs-Bytes as value-Bytes, outs-Date as value-Date, outs-Array as value-Array, outs-Struct as value-Struct}
 use Rattle.sql_types.proofs.TypeOpens.{comparable_opens, same_opens}
 use Rattle.sql_types.proofs.ValueOpens.{equal_opens}
 use Rattle.sql_coerce.proofs.Opens.{converted-opens, castable-opens, other_coerces-opens, meet-opens}
-use Rattle.sql_coerce.specs.declared.arg.Arg.{Arg}
 use Rattle.sql_catalog.specs.declared.entries.Entries.{Entries}
 use Rattle.sql_ast.specs.declared.expr.Expr.TheVariants.{outs-Or as expr-Or, outs-And as expr-And, outs-Not as expr-Not, outs-BitOr as expr-BitOr, outs-BitXor as expr-BitXor, outs-BitAnd as expr-BitAnd, outs-Shift as expr-Shift, outs-Sum as expr-Sum, outs-Product as expr-Product, outs-Unary as expr-Unary, outs-Compare as expr-Compare, outs-Like as expr-Like, outs-LikeList as expr-LikeList, outs-LikeUnnest as expr-LikeUnnest, outs-Between as expr-Between, outs-InList as expr-InList, outs-InQuery as expr-InQuery, outs-InUnnest as expr-InUnnest, outs-Is as expr-Is, outs-Distinct as expr-Distinct, outs-Postfix as expr-Postfix, outs-Integer as expr-Integer, outs-Text as expr-Text, outs-Bytes as expr-Bytes, outs-Bool as expr-Bool, outs-Null as expr-Null, outs-Date as expr-Date, outs-Parameter as expr-Parameter, outs-Name as expr-Name, outs-Call as expr-Call, outs-SafeCall as expr-SafeCall, outs-Scalar as expr-Scalar, outs-Tuple as expr-Tuple, outs-Case as expr-Case, outs-Cast as expr-Cast, outs-Extract as expr-Extract, outs-Grouping as expr-Grouping, outs-Exists as expr-Exists, outs-ArrayQuery as expr-ArrayQuery, outs-Array as expr-Array, outs-Struct as expr-Struct, outs-TypedStruct as expr-TypedStruct, outs-With as expr-With}
 use Rattle.sql_ast.specs.declared.query.Term.TheVariants.{outs-Select as term-Select, outs-Query as term-Query}
@@ -72,18 +71,89 @@ text_refused catalog query found = simp (TypeText, found)
 -- ---- lists of equations
 
 pub ruleset trees = (
-  out-roll-Query, out-roll-Select, out-roll-FromItem, out-roll-Joined,
-  term-Select, term-Query, primary-Table, primary-Query, primary-Path, primary-Unnest,
-  expr-Or, expr-And, expr-Not, expr-BitOr, expr-BitXor, expr-BitAnd, expr-Shift, expr-Sum, expr-Product, expr-Unary, expr-Compare, expr-Like, expr-LikeList, expr-LikeUnnest, expr-Between, expr-InList, expr-InQuery, expr-InUnnest, expr-Is, expr-Distinct, expr-Postfix, expr-Integer, expr-Text, expr-Bytes, expr-Bool, expr-Null, expr-Date, expr-Parameter, expr-Name, expr-Call, expr-SafeCall, expr-Scalar, expr-Tuple, expr-Case, expr-Cast, expr-Extract, expr-Grouping, expr-Exists, expr-ArrayQuery, expr-Array, expr-Struct, expr-TypedStruct, expr-With,
-  spelling-Name, spelling-Array, spelling-Struct)
+  out-roll-Query,
+  out-roll-Select,
+  out-roll-FromItem,
+  out-roll-Joined,
+  term-Select,
+  term-Query,
+  primary-Table,
+  primary-Query,
+  primary-Path,
+  primary-Unnest,
+  expr-Or,
+  expr-And,
+  expr-Not,
+  expr-BitOr,
+  expr-BitXor,
+  expr-BitAnd,
+  expr-Shift,
+  expr-Sum,
+  expr-Product,
+  expr-Unary,
+  expr-Compare,
+  expr-Like,
+  expr-LikeList,
+  expr-LikeUnnest,
+  expr-Between,
+  expr-InList,
+  expr-InQuery,
+  expr-InUnnest,
+  expr-Is,
+  expr-Distinct,
+  expr-Postfix,
+  expr-Integer,
+  expr-Text,
+  expr-Bytes,
+  expr-Bool,
+  expr-Null,
+  expr-Date,
+  expr-Parameter,
+  expr-Name,
+  expr-Call,
+  expr-SafeCall,
+  expr-Scalar,
+  expr-Tuple,
+  expr-Case,
+  expr-Cast,
+  expr-Extract,
+  expr-Grouping,
+  expr-Exists,
+  expr-ArrayQuery,
+  expr-Array,
+  expr-Struct,
+  expr-TypedStruct,
+  expr-With,
+  spelling-Name,
+  spelling-Array,
+  spelling-Struct,
+)
 
 pub ruleset types = (
-  type-Bool, type-Int32, type-Int64, type-Uint32, type-Uint64, type-Text, type-Bytes, type-Date, type-Array, type-Struct)
+  type-Bool,
+  type-Int32,
+  type-Int64,
+  type-Uint32,
+  type-Uint64,
+  type-Text,
+  type-Bytes,
+  type-Date,
+  type-Array,
+  type-Struct,
+)
 
 pub ruleset values = (
-  value-Null, value-Bool, value-Int, value-Uint, value-Text, value-Bytes, value-Date, value-Array, value-Struct)
+  value-Null,
+  value-Bool,
+  value-Int,
+  value-Uint,
+  value-Text,
+  value-Bytes,
+  value-Date,
+  value-Array,
+  value-Struct,
+)
 
 pub ruleset opens = (converted-opens, castable-opens, other_coerces-opens, meet-opens, comparable_opens, same_opens, equal_opens)
 
 pub ruleset typing = (type-expr, type-primary, type-term, type-from, type-joined, type-query, type-select, type-written)
-

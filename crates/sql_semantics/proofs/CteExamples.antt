@@ -1,37 +1,26 @@
 -- Worked examples of meaning: what a CTE gives those that read it.
-use Rattle.std.proofs.Common.{◌≡◌, ℕ, pos, Bool, true, false, List, [], ◌∷◌, codes, slice_get, Option, None, Some, Ok, Err, inl, inr, refl}
-use Rattle.sql_types.specs.declared.fault.FaultKind.TheVariants as fault
-use Rattle.sql_types.specs.declared.kinds.JoinKind.TheVariants as kind
+use Rattle.std.proofs.Common.{ℕ, pos, Bool, true, false, List, [], ◌∷◌, codes, None, Some, Ok, refl}
 use Rattle.sql_types.specs.declared.sql_type.SqlType.TheVariants as ty
 use Rattle.sql_types.specs.declared.value.Value.{Value}
 use Rattle.sql_types.specs.declared.value.Value.TheVariants as v
-use Rattle.sql_types.specs.Outcome.{Outcome, Meaning, gives, just, ◌>>=◌, Gather}
-use Rattle.sql_coerce.specs.Casts.{converted}
-use Rattle.sql_ast.specs.declared.clauses.Item.{Item}
-use Rattle.sql_ast.specs.declared.expr.Expr.{Expr}
 use Rattle.sql_ast.specs.declared.expr.Expr.TheVariants as e
 use Rattle.sql_ast.specs.declared.query.Query.{Query}
 use Rattle.sql_ast.specs.declared.query.Term.{Term}
 use Rattle.sql_ast.specs.declared.query.Term.TheVariants as term
-use Rattle.sql_ast.specs.declared.query.JoinWord.TheVariants as join
-use Rattle.sql_ast.specs.declared.query.Select.{Select}
 use Rattle.sql_rules.specs.declared.scope.Entry.{Entry}
-use Rattle.sql_rules.specs.declared.scope.Binding.{Binding}
 use Rattle.sql_rules.specs.declared.scope.Found.TheVariants.{Bound}
 use Rattle.sql_rules.specs.Scopes.{found}
-use Rattle.sql_semantics.specs.Environments.{Row, Frame, Env, CteOutcome, empty_env, Reads}
-use Rattle.sql_semantics.specs.MeansForms.{is_true}
-use Rattle.sql_semantics.specs.MeansFroms.{in_common, using_value}
-use Rattle.sql_semantics.specs.MeansLayers.{TableRows, all_of, no_frame}
+use Rattle.sql_semantics.specs.Environments.{empty_env, Reads}
+use Rattle.sql_semantics.specs.MeansLayers.{TableRows}
 use Rattle.sql_semantics.specs.Meanings.{MeansTerm, MeansQuery}
-use Rattle.sql_semantics.proofs.Trees.{both, call, equals, field, table_as, comma, query_of, named, plain, column, table, only, select_from, select_of, select_only, as_name, star, from_items, subquery, join_using, join_on}
+use Rattle.sql_semantics.proofs.Trees.{both, call, equals, field, table_as, comma, query_of, named, plain, select_of, select_only, as_name, from_items}
 use Rattle.sql_semantics.proofs.SmallCatalog.{three_tables, column_of}
-use Rattle.sql_semantics.proofs.Computing.{trees, types, values, opens, typing}
-use Rattle.sql_semantics.proofs.OnlyLaws.{Only, only_first_faults, only_as, only_just, only_then, only_fault, only_nothing, only_more, only_both, only_row, only_reads, scalar_of}
+use Rattle.sql_semantics.proofs.Computing.{trees, typing}
+use Rattle.sql_semantics.proofs.OnlyLaws.{Only, only_first_faults, only_as, only_just, only_then, only_fault, only_nothing, only_more, only_both, only_row, only_reads}
 use Rattle.sql_semantics.proofs.ChoiceExamples.{error_of, equal_untyped, iserror_truth, and_of}
 use Rattle.sql_semantics.proofs.TwoLaws.{Two, two_first, two_then, two_fault, two_one, two_tried, false_or_fault, cte_two}
 use Rattle.sql_semantics.proofs.Evaluating.{meaning}
-use Rattle.sql_semantics.proofs.MeantExamples.{same_truth, same_one, error_row, only_one}
+use Rattle.sql_semantics.proofs.MeantExamples.{same_truth, error_row, only_one}
 
 -- a column of the only scope, by its place
 first_slot : (used : ℕ) {scope : List Entry} {x : Value} {more : List Value} →

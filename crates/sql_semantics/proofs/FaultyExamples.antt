@@ -1,27 +1,22 @@
 -- Worked examples of typing: texts that break a rule of types or of forms, with the place.
-use Rattle.std.proofs.Common.{◌≡◌, refl, ◌∙◌, ℕ, pos, Bool, true, false, List, [], ◌∷◌, codes, Option, None, Some, Ok, Err}
-use Rattle.sql_types.specs.declared.sql_type.SqlType.TheVariants as ty
+use Rattle.std.proofs.Common.{◌≡◌, refl, pos, true, false, [], ◌∷◌, codes, None, Some, Err}
 use Rattle.sql_semantics.specs.TypeForms.{date_literal}
 use Rattle.sql_semantics.specs.TypeCalls.{extract_type}
 use Rattle.sql_types.specs.Calendar.{month_length, year_length, year_lengths, calendar_years, days_before_year, days_before_month, day_number, read_date}
 use Rattle.sql_ast.specs.declared.clauses.Item.TheVariants as item
-use Rattle.sql_ast.specs.declared.expr.Expr.{Expr}
 use Rattle.sql_ast.specs.declared.expr.Expr.TheVariants as e
-use Rattle.sql_ast.specs.declared.expr.Operator.TheVariants as operator
 use Rattle.sql_ast.specs.declared.expr.Signed.TheVariants as signed
-use Rattle.sql_ast.specs.declared.expr.Comparison.TheVariants as comparison
-use Rattle.sql_ast.specs.declared.clauses.Function.TheVariants as function
 use Rattle.sql_ast.specs.declared.query.JoinWord.TheVariants as join
 use Rattle.sql_ast.specs.declared.query.Primary.TheVariants as primary
-use Rattle.sql_ast.specs.declared.query.Query.{Query, roll-Query}
+use Rattle.sql_ast.specs.declared.query.Query.{Query}
 use Rattle.sql_ast.specs.declared.query.Select.{roll-Select}
 use Rattle.sql_ast.specs.declared.query.Term.TheVariants as term
 use Rattle.sql_ast.specs.declared.type_spelling.TypeSpelling.TheVariants as spelling
 use Rattle.sql_rules.specs.Scopes.{found}
-use Rattle.sql_semantics.proofs.Trees.{named, arguments, sum, product, both, equals, call, field, plain, as_name, column, star, select, select_from, select_only, query_of, select_of, from_items, only, table, table_as, subquery, subquery_as, comma, join_using, join_on}
-use Rattle.sql_semantics.proofs.SmallCatalog.{three_tables, column_of, unnamed}
+use Rattle.sql_semantics.proofs.Trees.{named, plain, as_name, star, select, select_from, select_only, query_of, from_items, only, table, subquery, join_using}
+use Rattle.sql_semantics.proofs.SmallCatalog.{three_tables}
 use Rattle.sql_semantics.proofs.Computing.{trees, types, values, opens, typing, answer}
-use Rattle.sql_semantics.proofs.ChoiceExamples.{equal_column, equal_columns, equal_truths, equal_untyped, error_of, and_of, and_number, not_number, not_truth, extract_week, plus_columns, plus_numbers, plus_column, plus_unsigned, times_columns, minus_number, div_numbers, iferror_number, iserror_truth, substr_of}
+use Rattle.sql_semantics.proofs.ChoiceExamples.{extract_week, minus_number}
 
 january : read_date (codes "2024-01-31") ≡ Some (pos 19753)
 unfolding read_date month_length day_number days_before_year days_before_month calendar_years year_lengths year_length

@@ -1,10 +1,10 @@
 -- The meaning of a text, one construct at a time: each part means what its layer says over its own parts.
-use Rattle.std.proofs.Common.{◌≡◌, ℕ, zero, suc, Bool, true, false, not, ◌&&◌, if◌then◌else◌, List, [], ◌∷◌, ◌++◌, map, drop, length, slice_get, Option, None, Some, Ok, Err, refl, sym, ◌∙◌, ap}
+use Rattle.std.proofs.Common.{◌≡◌, ℕ, zero, suc, Bool, true, false, not, ◌&&◌, if◌then◌else◌, List, [], ◌∷◌, ◌++◌, map, drop, length, Option, None, Some, Ok, Err, refl, sym, ◌∙◌, ap}
 use mathlib.Core.Path.{fun_ext}
 use Rattle.sql_types.specs.declared.kinds.JoinKind.{JoinKind}
-use Rattle.sql_types.specs.declared.sql_type.SqlType.{SqlType, out-SqlType}
+use Rattle.sql_types.specs.declared.sql_type.SqlType.{SqlType}
 use Rattle.sql_types.specs.declared.sql_type.SqlType.TheVariants as ty
-use Rattle.sql_types.specs.declared.value.Value.{Value, out-Value}
+use Rattle.sql_types.specs.declared.value.Value.{Value}
 use Rattle.sql_types.specs.declared.value.Value.TheVariants as value
 use Rattle.sql_types.specs.Joined.{joined}
 use Rattle.sql_types.specs.Logic.{Decided}
@@ -60,7 +60,7 @@ use Rattle.sql_semantics.specs.TypeCalls.{Defined, part_place}
 use Rattle.sql_semantics.specs.TypeLayers.{Columns, range_of, function_name, is_part, next_part, variable_entry, columns_at, hides_left, lists}
 use Rattle.sql_semantics.specs.Types.{TypePrimary, TypeJoined, TypeQuery}
 use Rattle.sql_semantics.specs.Environments.{Row, Frame, Env, within, with_outcome, sight_of, Reads}
-use Rattle.sql_semantics.specs.MeansForms.{Operand, operator_operand, converted_each, all_converted, args_of, safe_means, negated_means, list_means, pick, is_true, field_value, field_values, fields_of, subscript}
+use Rattle.sql_semantics.specs.MeansForms.{Operand, operator_operand, converted_each, all_converted, args_of, safe_means, negated_means, list_means, pick, is_true, field_value, subscript}
 use Rattle.sql_semantics.specs.MeansFroms.{join_kind, is_equal, joined_each, true_of}
 use Rattle.sql_semantics.specs.MeansLayers.{TableRows, Meant, all_of, as_struct, Meanings, in_any_order, type_or, scope_or, columns_or, looks_left, no_frame, function_among, arg_of, operand, operands, value_as, common, chain_operand, chained, decided, parts_means, bound_means, path_means, postfix_means, expression_operand, argument_operands, call_operands, body_means, call_means, safe_call_means, otherwise_operands, branches_means, last_means, results_of, case_means, bindings_means, expr_means, primary_means, pair_tests, kept_pairs, with_columns, join_each, join_alike, join_by, right_scope, joined_means, joins_means, from_means, replaced_value, edited_values, edit_means, members_means, qualified_means, qualified_by, item_means, values_at, row_means, from_scope, from_rows, inner, where_means, plain_select_means, select_means, term_means, ctes_means, query_means}
 use Rattle.sql_semantics.specs.Meanings.{ME, MP, MJ, MQ, meanings, meant_parts, MeansExpr, MeansPrimary, MeansTerm, MeansFrom, MeansJoined, MeansQuery, MeansSelect}

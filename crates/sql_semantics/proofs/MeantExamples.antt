@@ -1,14 +1,14 @@
 -- Worked examples of meaning: expressions with the outcomes that they permit.
-use Rattle.std.proofs.Common.{◌≡◌, ℕ, pos, Bool, true, false, List, [], ◌∷◌, codes, Option, None, Some, Ok, Err, inl, inr, refl}
+use Rattle.std.proofs.Common.{◌≡◌, ℕ, pos, Bool, false, List, [], ◌∷◌, codes, Ok, Err}
 use Rattle.sql_types.specs.declared.fault.FaultKind.TheVariants as fault
 use Rattle.sql_types.specs.declared.sql_type.SqlType.TheVariants as ty
 use Rattle.sql_types.specs.declared.value.Value.{Value}
 use Rattle.sql_types.specs.declared.value.Value.TheVariants as v
-use Rattle.sql_types.specs.Outcome.{Outcome, Meaning, gives, just, ◌>>=◌, Gather}
+use Rattle.sql_types.specs.Outcome.{Meaning, gives, just, ◌>>=◌, Gather}
 use Rattle.sql_coerce.specs.Casts.{converted}
 use Rattle.sql_ast.specs.declared.expr.Expr.{Expr}
 use Rattle.sql_ast.specs.declared.expr.Expr.TheVariants as e
-use Rattle.sql_semantics.specs.Environments.{Row, Frame, Env, empty_env}
+use Rattle.sql_semantics.specs.Environments.{empty_env}
 use Rattle.sql_semantics.specs.Meanings.{MeansExpr}
 use Rattle.sql_semantics.proofs.Trees.{both, equals, call}
 use Rattle.sql_semantics.proofs.SmallCatalog.{three_tables, three_rows}

@@ -1,35 +1,22 @@
 -- Worked examples of meaning: which name a subquery reads, and what a CTE gives its readers.
-use Rattle.std.proofs.Common.{◌≡◌, ℕ, pos, Bool, true, false, List, [], ◌∷◌, codes, slice_get, Option, None, Some, Ok, Err, inl, inr, refl}
-use Rattle.sql_types.specs.declared.fault.FaultKind.TheVariants as fault
-use Rattle.sql_types.specs.declared.kinds.JoinKind.TheVariants as kind
-use Rattle.sql_types.specs.declared.sql_type.SqlType.TheVariants as ty
+use Rattle.std.proofs.Common.{ℕ, pos, List, [], ◌∷◌, codes, None, Some, Ok, refl}
 use Rattle.sql_types.specs.declared.value.Value.{Value}
 use Rattle.sql_types.specs.declared.value.Value.TheVariants as v
-use Rattle.sql_types.specs.Outcome.{Outcome, Meaning, gives, just, ◌>>=◌, Gather}
-use Rattle.sql_coerce.specs.Casts.{converted}
 use Rattle.sql_ast.specs.declared.clauses.Item.{Item}
 use Rattle.sql_ast.specs.declared.expr.Expr.{Expr}
 use Rattle.sql_ast.specs.declared.expr.Expr.TheVariants as e
 use Rattle.sql_ast.specs.declared.query.Query.{Query}
-use Rattle.sql_ast.specs.declared.query.Term.TheVariants as term
-use Rattle.sql_ast.specs.declared.query.JoinWord.TheVariants as join
-use Rattle.sql_ast.specs.declared.query.Select.{Select}
 use Rattle.sql_rules.specs.declared.scope.Entry.{Entry}
-use Rattle.sql_rules.specs.declared.scope.Binding.{Binding}
 use Rattle.sql_rules.specs.declared.scope.Found.TheVariants.{Bound}
 use Rattle.sql_rules.specs.Scopes.{found}
-use Rattle.sql_semantics.specs.Environments.{Row, Frame, Env, CteOutcome, empty_env, Reads}
-use Rattle.sql_semantics.specs.MeansForms.{is_true}
-use Rattle.sql_semantics.specs.MeansFroms.{in_common, using_value}
-use Rattle.sql_semantics.specs.MeansLayers.{TableRows, all_of, no_frame}
-use Rattle.sql_semantics.specs.Meanings.{MeansExpr, MeansSelect, MeansQuery}
-use Rattle.sql_semantics.proofs.Trees.{both, call, equals, field, table_as, comma, query_of, named, plain, column, table, only, select_from, select_of, select_only, as_name, star, from_items, subquery, join_using, join_on}
-use Rattle.sql_semantics.proofs.SmallCatalog.{three_tables, three_rows}
-use Rattle.sql_semantics.proofs.Computing.{trees, types, values, opens, typing}
-use Rattle.sql_semantics.proofs.OnlyLaws.{Only, only_as, only_just, only_then, only_fault, only_nothing, only_more, only_both, only_row, only_reads, scalar_of}
-use Rattle.sql_semantics.proofs.ChoiceExamples.{error_of, equal_untyped, iserror_truth, and_of}
+use Rattle.sql_semantics.specs.Environments.{Frame, CteOutcome, empty_env, Reads}
+use Rattle.sql_semantics.specs.MeansLayers.{TableRows, no_frame}
+use Rattle.sql_semantics.specs.Meanings.{MeansSelect}
+use Rattle.sql_semantics.proofs.Trees.{plain, column, table, only, select_from, select_of, select_only, as_name, subquery}
+use Rattle.sql_semantics.proofs.SmallCatalog.{three_tables}
+use Rattle.sql_semantics.proofs.Computing.{trees, typing}
+use Rattle.sql_semantics.proofs.OnlyLaws.{Only, only_just, only_then, only_nothing, only_more, only_row, only_reads}
 use Rattle.sql_semantics.proofs.Evaluating.{meaning}
-use Rattle.sql_semantics.proofs.MeantExamples.{same_truth}
 
 -- the first column of the inner scope, and the second one of the outer
 inner_first : (outer : Frame) (ctes : List CteOutcome) (used : ℕ) {scope : List Entry} {x : Value} {more : List Value} →

@@ -1,10 +1,10 @@
 -- Meanings that permit one outcome alone.
-use Rattle.std.proofs.Common.{◌≡◌, ◌⊎◌, ℕ, Bool, false, List, [], ◌∷◌, length, slice_get, Option, None, Some, inl, inr, Result, Ok, Err, refl, sym, ◌∙◌, ap, subst}
+use Rattle.std.proofs.Common.{◌≡◌, List, [], ◌∷◌, slice_get, Some, inl, inr, Ok, Err, refl, sym, ◌∙◌, ap, subst}
 use Rattle.sql_types.specs.declared.fault.FaultKind.{FaultKind}
 use Rattle.sql_types.specs.declared.fault.FaultKind.TheVariants as fault
 use Rattle.sql_types.specs.declared.value.Value.{Value}
-use Rattle.sql_types.specs.Arranged.{Arranged, Permutes, permutes_none, permutes_skip, permutes_swap, permutes_then}
-use Rattle.sql_types.specs.Outcome.{Outcome, Meaning, gives, just, ◌>>=◌, goes_on, ends, EachGives, SomeFaults, Gather, all_give, one_faults, Both, both_give, left_faults, right_faults}
+use Rattle.sql_types.specs.Arranged.{Permutes, permutes_none, permutes_skip, permutes_swap, permutes_then}
+use Rattle.sql_types.specs.Outcome.{Outcome, Meaning, just, ◌>>=◌, goes_on, ends, Gather, all_give, one_faults, Both, both_give, left_faults, right_faults}
 use Rattle.sql_types.proofs.Orders.{arranged_refl}
 use Rattle.sql_rules.specs.declared.scope.Binding.{Binding}
 use Rattle.sql_rules.specs.declared.scope.Found.TheVariants.{Bound}

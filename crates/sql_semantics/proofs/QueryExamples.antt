@@ -1,31 +1,27 @@
 -- Worked examples of meaning: whole queries with the rows that they permit.
-use Rattle.std.proofs.Common.{◌≡◌, ℕ, pos, Bool, true, false, List, [], ◌∷◌, codes, slice_get, Option, None, Some, Ok, Err, inl, inr, refl}
+use Rattle.std.proofs.Common.{◌≡◌, ℕ, pos, false, List, [], ◌∷◌, codes, None, Some, Ok, Err, refl}
 use Rattle.sql_types.specs.declared.fault.FaultKind.TheVariants as fault
 use Rattle.sql_types.specs.declared.kinds.JoinKind.TheVariants as kind
 use Rattle.sql_types.specs.declared.sql_type.SqlType.TheVariants as ty
 use Rattle.sql_types.specs.declared.value.Value.{Value}
 use Rattle.sql_types.specs.declared.value.Value.TheVariants as v
-use Rattle.sql_types.specs.Outcome.{Outcome, Meaning, gives, just, ◌>>=◌, Gather}
+use Rattle.sql_types.specs.Outcome.{gives, ◌>>=◌, Gather}
 use Rattle.sql_coerce.specs.Casts.{converted}
-use Rattle.sql_ast.specs.declared.clauses.Item.{Item}
-use Rattle.sql_ast.specs.declared.expr.Expr.{Expr}
 use Rattle.sql_ast.specs.declared.expr.Expr.TheVariants as e
-use Rattle.sql_ast.specs.declared.query.Query.{Query}
 use Rattle.sql_ast.specs.declared.query.JoinWord.TheVariants as join
 use Rattle.sql_ast.specs.declared.query.Select.{Select}
 use Rattle.sql_rules.specs.declared.scope.Entry.{Entry}
-use Rattle.sql_rules.specs.declared.scope.Binding.{Binding}
 use Rattle.sql_rules.specs.declared.scope.Found.TheVariants.{Bound}
 use Rattle.sql_rules.specs.Scopes.{found}
-use Rattle.sql_semantics.specs.Environments.{Row, Frame, Env, CteOutcome, empty_env, Reads}
+use Rattle.sql_semantics.specs.Environments.{CteOutcome, empty_env, Reads}
 use Rattle.sql_semantics.specs.MeansForms.{is_true}
 use Rattle.sql_semantics.specs.MeansFroms.{in_common, using_value}
-use Rattle.sql_semantics.specs.MeansLayers.{TableRows, all_of}
-use Rattle.sql_semantics.specs.Meanings.{MeansExpr, MeansSelect, MeansQuery}
-use Rattle.sql_semantics.proofs.Trees.{named, plain, column, table, only, select_from, select_of, select_only, as_name, star, from_items, subquery, join_using, join_on}
+use Rattle.sql_semantics.specs.MeansLayers.{all_of}
+use Rattle.sql_semantics.specs.Meanings.{MeansExpr, MeansSelect}
+use Rattle.sql_semantics.proofs.Trees.{named, column, table, only, select_from, select_of, select_only, as_name, star, from_items, subquery, join_using, join_on}
 use Rattle.sql_semantics.proofs.SmallCatalog.{three_tables, three_rows}
 use Rattle.sql_semantics.proofs.Computing.{trees, types, values, opens, typing}
-use Rattle.sql_semantics.proofs.OnlyLaws.{Only, only_as, only_just, only_then, only_fault, only_nothing, only_more, only_both, only_row, only_reads, scalar_of}
+use Rattle.sql_semantics.proofs.OnlyLaws.{Only, only_as, only_just, only_then, only_nothing, only_more, only_both, only_row, only_reads, scalar_of}
 use Rattle.sql_semantics.proofs.Evaluating.{meaning}
 use Rattle.sql_semantics.proofs.MeantExamples.{same_truth}
 
@@ -75,7 +71,6 @@ full_rows =
     (only_then (only_then (only_then (only_just _) (only_then (only_just _) (only_then (only_more (only_then (only_more (only_then (only_just _) (only_just _)) (only_more (only_then (only_just _) (only_just _)) only_nothing)) (only_just _)) only_nothing) (only_just _)))) (only_row _)) (only_just _)))
     (only_then (only_just _) (only_as {o = Ok ((v.Int (pos 1) ∷ v.Int (pos 10) ∷ v.Null ∷ v.Null ∷ v.Int (pos 1) ∷ []) ∷ (v.Null ∷ v.Null ∷ v.Int (pos 2) ∷ v.Int (pos 20) ∷ v.Int (pos 2) ∷ []) ∷ [])} (simp (in_common, full_left, full_right, opens, types, values)))))
     (only_then (only_just _) (only_then (only_more (only_then (only_more (only_then only_nothing (only_just _)) only_nothing) (only_just _)) (only_more (only_then (only_more (only_then only_nothing (only_just _)) only_nothing) (only_just _)) only_nothing)) (only_just _))))
-
 
 -- ---- joins
 

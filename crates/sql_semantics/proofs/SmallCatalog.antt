@@ -1,5 +1,5 @@
 -- The catalog of the worked examples: tables t(a INT64, b STRING), e(k INT64) and p(s STRING, q STRING, n INT64).
-use Rattle.std.proofs.Common.{ℕ, pos, List, [], ◌∷◌, codes, Option, None, Some}
+use Rattle.std.proofs.Common.{ℕ, pos, List, [], ◌∷◌, codes, None, Some}
 use Rattle.sql_types.specs.declared.sql_type.Named.{Named}
 use Rattle.sql_types.specs.declared.sql_type.SqlType.{SqlType}
 use Rattle.sql_types.specs.declared.sql_type.SqlType.TheVariants as ty

@@ -1,23 +1,14 @@
 -- Words for writing parse trees down. Each takes the places that its production has, counted in the text from 0.
-use Rattle.std.proofs.Common.{ℕ, Bool, true, false, List, [], ◌∷◌, Option, None, Some}
-use Rattle.sql_ast.specs.declared.clauses.Aliased.{Aliased}
+use Rattle.std.proofs.Common.{ℕ, false, List, [], ◌∷◌, Option, None, Some}
 use Rattle.sql_ast.specs.declared.clauses.Arg.{Arg as Argument}
 use Rattle.sql_ast.specs.declared.clauses.Arg.TheVariants as arg
-use Rattle.sql_ast.specs.declared.clauses.Edit.{Edit}
-use Rattle.sql_ast.specs.declared.clauses.Function.{Function}
 use Rattle.sql_ast.specs.declared.clauses.Function.TheVariants as function
 use Rattle.sql_ast.specs.declared.clauses.Item.{Item}
 use Rattle.sql_ast.specs.declared.clauses.Item.TheVariants as item
 use Rattle.sql_ast.specs.declared.clauses.Name.{Name}
-use Rattle.sql_ast.specs.declared.clauses.On.{On}
 use Rattle.sql_ast.specs.declared.clauses.On.TheVariants as on
-use Rattle.sql_ast.specs.declared.clauses.WithOffset.{WithOffset}
-use Rattle.sql_ast.specs.declared.expr.Comparison.{Comparison}
 use Rattle.sql_ast.specs.declared.expr.Comparison.TheVariants as comparison
-use Rattle.sql_ast.specs.declared.expr.Link.{Link}
-use Rattle.sql_ast.specs.declared.expr.Operator.{Operator}
 use Rattle.sql_ast.specs.declared.expr.Operator.TheVariants as operator
-use Rattle.sql_ast.specs.declared.expr.Part.{Part}
 use Rattle.sql_ast.specs.declared.expr.Part.TheVariants as part
 use Rattle.sql_ast.specs.declared.expr.Expr.{Expr}
 use Rattle.sql_ast.specs.declared.expr.Expr.TheVariants as e

@@ -1,10 +1,10 @@
 -- Meanings that permit two outcomes and no other.
-use Rattle.std.proofs.Common.{◌≡◌, ◌⊎◌, Bool, true, false, List, [], ◌∷◌, inl, inr, Ok, Err, refl, ap, subst}
+use Rattle.std.proofs.Common.{◌≡◌, ◌⊎◌, true, false, List, [], ◌∷◌, inl, inr, Ok, Err, refl, ap, subst}
 use Rattle.sql_types.specs.declared.fault.FaultKind.{FaultKind}
 use Rattle.sql_types.specs.declared.value.Value.{Value}
 use Rattle.sql_types.specs.declared.value.Value.TheVariants as v
 use Rattle.sql_types.specs.Logic.{Decided, all_valued, one_decides, one_of_faults}
-use Rattle.sql_types.specs.Outcome.{Outcome, Meaning, ◌>>=◌, goes_on, ends, EachGives, SomeFaults, Gather, all_give, one_faults}
+use Rattle.sql_types.specs.Outcome.{Outcome, Meaning, ◌>>=◌, goes_on, ends, Gather, all_give, one_faults}
 use Rattle.sql_semantics.specs.Environments.{Row}
 use Rattle.sql_semantics.specs.MeansForms.{Tried, a_value, a_fault}
 use Rattle.sql_semantics.specs.MeansLayers.{in_any_order}

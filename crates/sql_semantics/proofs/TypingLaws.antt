@@ -46,10 +46,10 @@ use Rattle.sql_semantics.specs.Sights.{Sight, inside, with_cte, for_struct}
 use Rattle.sql_semantics.specs.Places.{place_of, single_name, implied_name}
 use Rattle.sql_semantics.specs.Paths.{leading_names, path_type}
 use Rattle.sql_semantics.specs.FromScopes.{FromScope, repeats_range}
-use Rattle.sql_semantics.specs.TypeCalls.{Defined, Written, has_modifier, call_type, safe_call_type}
+use Rattle.sql_semantics.specs.TypeCalls.{Defined, has_modifier, call_type, safe_call_type}
 use Rattle.sql_semantics.specs.CatalogNames.{function_of}
 use Rattle.sql_semantics.specs.TypeForms.{needed, field_type, element_of, type_of, other, struct_fields, operator_type, operator_name}
-use Rattle.sql_semantics.specs.TypeLayers.{Typings, Columns, function_name, named_or, columns_at, cte_named, primary_place, seen_scope, hides_left, is_part, next_part, path_place, chain_layer, chained, args_layer, parts_layer, path_layer, postfix_layer, sorts_layer, expression_layer, argument_layer, arguments_layer, call_layer, safe_call_layer, condition_layer, branches_layer, values_layer, otherwise_layer, case_layer, bindings_layer, elements_layer, fields_layer, aliased_args, aliased_names, expr_layer, primary_layer, on_layer, joined_layer, joins_layer, from_layer, from_part, replacements_layer, edit_layer, items_layer, where_layer, plain_select, select_layer, term_layer, ctes_layer, query_layer}
+use Rattle.sql_semantics.specs.TypeLayers.{Columns, function_name, named_or, columns_at, cte_named, primary_place, seen_scope, hides_left, is_part, next_part, path_place, chain_layer, chained, args_layer, parts_layer, path_layer, postfix_layer, sorts_layer, expression_layer, argument_layer, arguments_layer, call_layer, safe_call_layer, condition_layer, branches_layer, values_layer, otherwise_layer, case_layer, bindings_layer, elements_layer, fields_layer, aliased_args, aliased_names, expr_layer, primary_layer, on_layer, joined_layer, joins_layer, from_layer, from_part, replacements_layer, edit_layer, items_layer, where_layer, select_layer, term_layer, ctes_layer, query_layer}
 use Rattle.sql_semantics.specs.Types.{AsExpr, AsPrimary, AsFrom, AsJoined, AsColumns, given, typed, TypeExpr, TypePrimary, TypeTerm, TypeFrom, TypeJoined, TypeQuery, TypeSelect}
 
 -- one check after another is the same where each is

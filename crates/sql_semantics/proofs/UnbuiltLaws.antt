@@ -1,11 +1,11 @@
 -- Whether a text holds a form that isn't built, one construct at a time: a part holds one where its layer over its own parts does.
 use Rattle.std.proofs.Common.{◌≡◌, Bool}
-use Rattle.sql_ast.specs.declared.expr.Expr.{Expr, out-Expr, map-Expr, fold-Expr, fold_out-Expr}
+use Rattle.sql_ast.specs.declared.expr.Expr.{Expr, out-Expr, map-Expr, fold_out-Expr}
 use Rattle.sql_ast.specs.declared.query.Primary.{Primary, out-Primary, map-Primary, fold-Primary, fold_out-Primary}
 use Rattle.sql_ast.specs.declared.query.Term.{Term, out-Term, map-Term, fold-Term, fold_out-Term}
 use Rattle.sql_ast.specs.declared.query.FromItem.{FromItem, out-FromItem, map-FromItem, fold-FromItem, fold_out-FromItem}
 use Rattle.sql_ast.specs.declared.query.Joined.{Joined, out-Joined, map-Joined, fold-Joined, fold_out-Joined}
-use Rattle.sql_ast.specs.declared.query.Query.{Query, out-Query, map-Query, fold-Query, fold_out-Query}
+use Rattle.sql_ast.specs.declared.query.Query.{Query, out-Query, map-Query, fold_out-Query}
 use Rattle.sql_ast.specs.declared.query.Select.{Select, out-Select, map-Select, fold-Select, fold_out-Select}
 use Rattle.sql_semantics.specs.Unbuilt.{in_expr, in_primary, in_term, in_from, in_joined, in_query, in_select, unbuilt_query, unbuilt_expr}
 

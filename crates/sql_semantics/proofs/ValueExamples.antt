@@ -1,5 +1,5 @@
 -- Worked examples of meaning: faults, what is caught, casts, and IN.
-use Rattle.std.proofs.Common.{◌≡◌, refl, sym, ℕ, ℤ, pos, negsuc, Bool, true, false, List, [], ◌∷◌, codes, Option, None, Some, Ok, Err, inl, inr}
+use Rattle.std.proofs.Common.{◌≡◌, refl, pos, negsuc, Bool, true, false, [], ◌∷◌, codes, Ok, Err}
 use denote.Hole.Carrier.{out}
 use Rattle.sql_types.specs.declared.fault.FaultKind.{FaultKind}
 use Rattle.sql_types.specs.declared.fault.FaultKind.TheVariants as fault
