@@ -1,5 +1,5 @@
 -- What the names of a catalog denote.
-use Rattle.std.specs.Prelude.{ℕ, suc, Bool, true, false, if◌then◌else◌, List, [], ◌∷◌, Option, None, Some}
+use Rattle.std.specs.Prelude.{ℕ, if◌then◌else◌, List, [], ◌∷◌, Option, None, Some}
 use Rattle.sql_types.specs.declared.sql_type.Named.{Named}
 use Rattle.sql_types.specs.declared.sql_type.SqlType.{SqlType}
 use Rattle.sql_names.specs.Words.{same_name}
@@ -9,7 +9,7 @@ use Rattle.sql_catalog.specs.declared.entries.Entries.{Entries}
 use Rattle.sql_catalog.specs.declared.entries.ParamDef.{ParamDef}
 use Rattle.sql_catalog.specs.declared.entries.TableDef.{TableDef}
 use Rattle.sql_semantics.specs.Checks.{Checked}
-use Rattle.sql_semantics.specs.TypeCalls.{Defined, a_view, a_function}
+use Rattle.sql_semantics.specs.TypeCalls.{Defined, a_view}
 
 -- the columns of the table of a name
 abbrev pub table_among : List TableDef → List ℕ → Option (List (Named SqlType))

@@ -1,5 +1,5 @@
 -- Environments: a value for each name in sight.
-use Rattle.std.specs.Prelude.{◌≡◌, ℕ, Bool, true, false, List, [], ◌∷◌, ◌++◌, map, slice_get, Option, None, Some, Result, Ok, Err}
+use Rattle.std.specs.Prelude.{◌≡◌, ℕ, true, List, [], ◌∷◌, ◌++◌, map, slice_get, Some, Ok}
 use Rattle.sql_types.specs.declared.sql_type.Named.{Named}
 use Rattle.sql_types.specs.declared.sql_type.SqlType.{SqlType}
 use Rattle.sql_types.specs.declared.value.Value.{Value}
@@ -7,7 +7,7 @@ use Rattle.sql_types.specs.Outcome.{Outcome, Meaning}
 use Rattle.sql_rules.specs.declared.scope.Entry.{Entry}
 use Rattle.sql_rules.specs.declared.scope.Found.{Found}
 use Rattle.sql_rules.specs.declared.scope.Found.TheVariants.{Bound, Missing, Ambiguous}
-use Rattle.sql_semantics.specs.Sights.{Sight, CteColumns}
+use Rattle.sql_semantics.specs.Sights.{Sight}
 
 abbrev pub Row : Type 0
 Row = List Value

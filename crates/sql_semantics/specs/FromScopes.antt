@@ -1,5 +1,5 @@
 -- The names that items of FROM bring.
-use Rattle.std.specs.Prelude.{ℕ, suc, ◌+◌, Bool, true, false, not, ◌==◌, ◌&&◌, if◌then◌else◌, List, [], ◌∷◌, ◌++◌, map, length, slice_get, codes, Option, None, Some, option_and_then, Ok}
+use Rattle.std.specs.Prelude.{ℕ, suc, ◌+◌, Bool, not, ◌==◌, if◌then◌else◌, List, [], ◌∷◌, ◌++◌, map, length, slice_get, codes, Option, None, Some, option_and_then, Ok}
 use Rattle.std.specs.List.{filter, list_any}
 use Rattle.sql_types.specs.declared.sql_type.Named.{Named}
 use Rattle.sql_types.specs.declared.sql_type.SqlType.{SqlType, out-SqlType}
@@ -8,14 +8,13 @@ use Rattle.sql_types.specs.declared.sql_type.SqlType.TheOpen as t
 use Rattle.sql_names.specs.Words.{same_name}
 use Rattle.sql_ast.specs.declared.clauses.Name.{Name}
 use Rattle.sql_ast.specs.declared.clauses.WithOffset.{WithOffset}
-use Rattle.sql_coerce.specs.declared.arg.Arg.{Arg}
 use Rattle.sql_rules.specs.declared.scope.Entry.{Entry}
 use Rattle.sql_rules.specs.declared.scope.Member.{Member}
 use Rattle.sql_rules.specs.declared.scope.What.{What}
 use Rattle.sql_rules.specs.declared.scope.What.TheVariants as what
-use Rattle.sql_rules.specs.Scopes.{is_range, is_named, members_of, ranges, columns}
+use Rattle.sql_rules.specs.Scopes.{is_range, columns}
 use Rattle.sql_rules.specs.Tables.{column_entries, members_from}
-use Rattle.sql_semantics.specs.Checks.{Checked, ◌>>=◌, broken, unless}
+use Rattle.sql_semantics.specs.Checks.{Checked, ◌>>=◌, broken}
 use Rattle.sql_semantics.specs.TypeForms.{other_arg, compared_type}
 
 -- The names of an item of FROM, or of several: a scope, and the places of its columns in the order of `*`.

@@ -1,5 +1,5 @@
 -- What the forms of expressions mean, over what their parts mean.
-use Rattle.std.specs.Prelude.{◌≡◌, ℕ, suc, ◌-◌, ℤ, pos, negsuc, nat_lt, Bool, true, false, not, if◌then◌else◌, List, [], ◌∷◌, ◌++◌, map, length, slice_get, slice_index_or, replicate, Option, None, Some, Result, Ok, Err}
+use Rattle.std.specs.Prelude.{ℕ, suc, ℤ, pos, Bool, true, false, if◌then◌else◌, List, [], ◌∷◌, map, slice_get, slice_index_or, replicate, Option, None, Some, Ok, Err}
 use Rattle.sql_types.specs.declared.fault.FaultKind.{FaultKind}
 use Rattle.sql_types.specs.declared.fault.FaultKind.TheVariants as fault
 use Rattle.sql_types.specs.declared.sql_type.Named.{Named}
@@ -12,9 +12,8 @@ use Rattle.sql_types.specs.declared.value.Value.TheOpen as v
 use Rattle.sql_types.specs.Before.{is_null}
 use Rattle.sql_types.specs.Same.{equal}
 use Rattle.sql_types.specs.Logic.{opposite, any_true, truth_of, of_truth, Decided}
-use Rattle.sql_types.specs.Outcome.{Outcome, Meaning, gives, just, nothing, ◌>>=◌, Gather, Both}
+use Rattle.sql_types.specs.Outcome.{Outcome, Meaning, gives, just, nothing, ◌>>=◌, Gather}
 use Rattle.sql_types.specs.Takes.{number, elements}
-use Rattle.sql_ast.specs.declared.clauses.Name.{Name}
 use Rattle.sql_ast.specs.declared.expr.IndexForm.{IndexForm}
 use Rattle.sql_ast.specs.declared.expr.IndexForm.TheVariants as form
 use Rattle.sql_coerce.specs.declared.arg.Arg.{Arg}

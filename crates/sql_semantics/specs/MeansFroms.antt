@@ -1,5 +1,5 @@
 -- The rows of FROM: bindings, each with a value per entry of the scope that FROM brings.
-use Rattle.std.specs.Prelude.{◌≡◌, ℕ, suc, ◌+◌, pos, Bool, true, false, ◌&&◌, if◌then◌else◌, List, [], ◌∷◌, ◌++◌, map, take, drop, length, slice_index_or, Option, None, Some, Result, Ok, Err}
+use Rattle.std.specs.Prelude.{ℕ, suc, Bool, true, false, ◌&&◌, List, [], ◌∷◌, ◌++◌, map, take, drop, length, slice_index_or, Option, None, Some, Ok, Err}
 use Rattle.sql_types.specs.declared.kinds.JoinKind.{JoinKind}
 use Rattle.sql_types.specs.declared.kinds.JoinKind.TheVariants as kind
 use Rattle.sql_types.specs.declared.sql_type.Named.{Named}
@@ -8,8 +8,8 @@ use Rattle.sql_types.specs.declared.value.Value.{Value, out-Value}
 use Rattle.sql_types.specs.declared.value.Value.TheVariants as value
 use Rattle.sql_types.specs.Before.{is_null}
 use Rattle.sql_types.specs.Same.{equal}
-use Rattle.sql_types.specs.Joined.{Pairs, met, padded_right, joined}
-use Rattle.sql_types.specs.Outcome.{Outcome, Meaning, gives, just, ◌>>=◌, Gather}
+use Rattle.sql_types.specs.Joined.{Pairs, met, padded_right}
+use Rattle.sql_types.specs.Outcome.{Meaning, gives, just, ◌>>=◌, Gather}
 use Rattle.sql_types.specs.Takes.{count_value, elements}
 use Rattle.sql_ast.specs.declared.clauses.WithOffset.{WithOffset}
 use Rattle.sql_ast.specs.declared.query.JoinWord.{JoinWord}

@@ -1,8 +1,7 @@
 -- What a text means in an environment: which outcomes it permits. One case per construct, over what its parts mean.
-use Rattle.std.specs.Prelude.{◌≡◌, ℕ, suc, ◌+◌, negsuc, Bool, true, false, not, ◌&&◌, if◌then◌else◌, List, [], ◌∷◌, ◌++◌, map, drop, length, replicate, codes, slice_get, slice_index_or, Option, None, Some, Result, Ok, Err}
+use Rattle.std.specs.Prelude.{◌≡◌, ℕ, suc, negsuc, Bool, true, false, not, ◌&&◌, if◌then◌else◌, List, [], ◌∷◌, ◌++◌, map, drop, length, codes, slice_get, slice_index_or, Option, None, Some, Ok, Err}
 use Rattle.std.specs.Str.{str_to_ascii_uppercase}
 use Rattle.sql_types.specs.declared.kinds.JoinKind.{JoinKind}
-use Rattle.sql_types.specs.declared.sql_type.Named.{Named}
 use Rattle.sql_types.specs.declared.sql_type.SqlType.{SqlType, out-SqlType}
 use Rattle.sql_types.specs.declared.sql_type.SqlType.TheVariants as ty
 use Rattle.sql_types.specs.declared.value.Value.{Value, out-Value}
@@ -11,11 +10,10 @@ use Rattle.sql_types.specs.Arranged.{Arranged}
 use Rattle.sql_types.specs.Calendar.{read_date}
 use Rattle.sql_types.specs.Joined.{Pairs, joined}
 use Rattle.sql_types.specs.Same.{equal}
-use Rattle.sql_types.specs.Logic.{Decided, truth_of}
+use Rattle.sql_types.specs.Logic.{Decided}
 use Rattle.sql_types.specs.Outcome.{Outcome, Meaning, gives, just, nothing, ◌>>=◌, Gather, Both}
 use Rattle.sql_types.specs.Takes.{elements}
 use Rattle.sql_names.specs.Words.{same_name}
-use Rattle.sql_ast.specs.declared.clauses.Aliased.{Aliased}
 use Rattle.sql_ast.specs.declared.clauses.Arg.{Arg as Argument}
 use Rattle.sql_ast.specs.declared.clauses.Arg.TheVariants as arg
 use Rattle.sql_ast.specs.declared.clauses.Binding.{Binding}
@@ -28,12 +26,11 @@ use Rattle.sql_ast.specs.declared.clauses.On.{On}
 use Rattle.sql_ast.specs.declared.clauses.On.TheVariants as on
 use Rattle.sql_ast.specs.declared.clauses.Replacement.{Replacement}
 use Rattle.sql_ast.specs.declared.clauses.When.{When}
-use Rattle.sql_ast.specs.declared.clauses.WithOffset.{WithOffset}
 use Rattle.sql_ast.specs.declared.expr.Link.{Link}
 use Rattle.sql_ast.specs.declared.expr.Part.{Part}
 use Rattle.sql_ast.specs.declared.expr.Part.TheVariants as part
 use Rattle.sql_ast.specs.declared.expr.Prefix.{Prefix}
-use Rattle.sql_ast.specs.declared.expr.Expr.{Expr, out-Expr}
+use Rattle.sql_ast.specs.declared.expr.Expr.{Expr}
 use Rattle.sql_ast.specs.declared.expr.Expr.TheOpen as ast
 use Rattle.sql_ast.specs.declared.expr.Expr.TheOpen.{Expr-F, Primary-F, Term-F, FromItem-F, Joined-F, Query-F, Select-F}
 use Rattle.sql_ast.specs.declared.query.Cte.{Cte}
@@ -41,7 +38,6 @@ use Rattle.sql_ast.specs.declared.query.FromItem.{FromItem}
 use Rattle.sql_ast.specs.declared.query.Joined.{Joined}
 use Rattle.sql_ast.specs.declared.query.Primary.{Primary, out-Primary}
 use Rattle.sql_ast.specs.declared.query.Query.{Query}
-use Rattle.sql_ast.specs.declared.type_spelling.TypeSpelling.{TypeSpelling}
 use Rattle.sql_coerce.specs.declared.arg.Arg.{Arg}
 use Rattle.sql_coerce.specs.declared.arg.Kind.TheVariants as kind
 use Rattle.sql_coerce.specs.Casts.{converted}
@@ -55,21 +51,21 @@ use Rattle.sql_catalog.specs.declared.entries.ParamDef.{ParamDef}
 use Rattle.sql_catalog.specs.declared.entries.TableDef.{TableDef}
 use Rattle.sql_rules.specs.declared.scope.Entry.{Entry}
 use Rattle.sql_rules.specs.declared.scope.Found.{Found}
-use Rattle.sql_rules.specs.declared.scope.Found.TheVariants.{Bound, Missing, Ambiguous}
+use Rattle.sql_rules.specs.declared.scope.Found.TheVariants.{Bound}
 use Rattle.sql_rules.specs.declared.scope.Member.{Member}
 use Rattle.sql_rules.specs.Scopes.{found}
 use Rattle.sql_semantics.specs.Checks.{Checked}
-use Rattle.sql_semantics.specs.Sights.{last_cte, inside}
+use Rattle.sql_semantics.specs.Sights.{last_cte}
 use Rattle.sql_semantics.specs.Places.{single_name, integer_literal}
 use Rattle.sql_semantics.specs.TypeNames.{written_type}
 use Rattle.sql_semantics.specs.TypeForms.{other_arg, type_of, integer_value, field_type, element_of, operator_name, prefix_name, comparison_name, test_name, is_minus, is_least}
 use Rattle.sql_semantics.specs.Paths.{leading_names, path_type, path_element}
-use Rattle.sql_semantics.specs.FromScopes.{FromScope, no_from, beside, UsingColumn, using_columns, using_scope}
+use Rattle.sql_semantics.specs.FromScopes.{FromScope, no_from, beside, UsingColumn, using_columns}
 use Rattle.sql_semantics.specs.TypeCalls.{Defined, part_arg, part_place, argument_types}
-use Rattle.sql_semantics.specs.TypeLayers.{Columns, function_name, is_part, next_part, name_text, named_or, last_name, lists, replaced_type, columns_at, range_of, hides_left, seen_scope, variable_entry, member_columns, is_plain_select, is_plain_query}
+use Rattle.sql_semantics.specs.TypeLayers.{Columns, function_name, is_part, next_part, name_text, named_or, lists, columns_at, range_of, hides_left, seen_scope, variable_entry, member_columns, is_plain_select, is_plain_query}
 use Rattle.sql_semantics.specs.Types.{TypeExpr, TypePrimary, TypeFrom, TypeJoined, TypeQuery}
 use Rattle.sql_semantics.specs.Environments.{Row, Frame, Env, CteOutcome, within, with_outcome, sight_of, Reads}
-use Rattle.sql_semantics.specs.MeansForms.{Operand, converted_to, converted_each, all_converted, args_of, is_true, is_null_value, operator_means, operator_operand, choice_means, safe_means, negated_means, among, list_means, single, is_empty, column_values, field_value, field_values, fields_of, subscript, pick}
+use Rattle.sql_semantics.specs.MeansForms.{Operand, converted_to, converted_each, all_converted, args_of, is_true, operator_means, operator_operand, safe_means, negated_means, among, list_means, single, is_empty, column_values, field_value, field_values, fields_of, subscript, pick}
 use Rattle.sql_semantics.specs.MeansFroms.{with_range, unnested, join_kind, true_of, joined_each, is_equal, using_test, with_using}
 
 -- the rows of each table, by its number in the catalog

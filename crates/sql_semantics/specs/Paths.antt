@@ -5,8 +5,6 @@ use Rattle.sql_ast.specs.declared.clauses.Name.{Name}
 use Rattle.sql_ast.specs.declared.expr.Part.{Part}
 use Rattle.sql_ast.specs.declared.expr.Part.TheVariants as part
 use Rattle.sql_rules.specs.declared.scope.Entry.{Entry}
-use Rattle.sql_rules.specs.declared.scope.What.{What}
-use Rattle.sql_rules.specs.declared.scope.What.TheVariants as what
 use Rattle.sql_rules.specs.declared.scope.Binding.{Binding}
 use Rattle.sql_rules.specs.declared.scope.Found.{Found}
 use Rattle.sql_rules.specs.declared.scope.Found.TheVariants.{Bound, Missing, Ambiguous}

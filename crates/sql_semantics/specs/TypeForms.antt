@@ -1,5 +1,5 @@
 -- The typing rules of expressions, one for each form, over parts that are typed already.
-use Rattle.std.specs.Prelude.{ℕ, pos, ◌==◌, nat_lt, Bool, true, false, not, ◌&&◌, ◌||◌, if◌then◌else◌, List, [], ◌∷◌, length, codes, Option, None, Some, Ok}
+use Rattle.std.specs.Prelude.{ℕ, pos, ◌==◌, nat_lt, Bool, true, false, not, ◌&&◌, if◌then◌else◌, List, [], ◌∷◌, codes, Option, None, Some, Ok}
 use Rattle.sql_types.specs.declared.sql_type.Named.{Named}
 use Rattle.sql_types.specs.declared.sql_type.SqlType.{SqlType, out-SqlType}
 use Rattle.sql_types.specs.declared.sql_type.SqlType.TheVariants as ty
@@ -26,7 +26,6 @@ use Rattle.sql_coerce.specs.Supertypes.{supertype}
 use Rattle.sql_coerce.specs.Casts.{castable}
 use Rattle.sql_builtins.specs.declared.choice.Choice.{Choice}
 use Rattle.sql_builtins.specs.Choices.{chosen, coerces_by, own_type}
-use Rattle.sql_rules.specs.declared.scope.Entry.{Entry}
 use Rattle.sql_semantics.specs.Checks.{Checked, ◌>>=◌, broken, unless}
 use Rattle.sql_semantics.specs.TypeNames.{is_array}
 

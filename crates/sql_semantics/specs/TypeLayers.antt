@@ -1,7 +1,7 @@
 -- The type of a text, or the first rule that it breaks and the place: one case per construct, over what its parts are typed
 -- as. The order of the lines is the order in which rules are looked at.
-use Rattle.std.specs.Prelude.{ℕ, zero, suc, ◌==◌, Bool, true, false, not, ◌&&◌, ◌||◌, if◌then◌else◌, List, [], ◌∷◌, ◌++◌, map, drop, length, codes, slice_get, Option, None, Some, option_and_then, option_map, Ok}
-use Rattle.std.specs.List.{list_any, filter, last_or}
+use Rattle.std.specs.Prelude.{ℕ, zero, suc, ◌==◌, Bool, true, false, not, ◌&&◌, ◌||◌, if◌then◌else◌, List, [], ◌∷◌, ◌++◌, map, drop, length, codes, slice_get, Option, None, Some, Ok}
+use Rattle.std.specs.List.{list_any}
 use Rattle.sql_types.specs.declared.sql_type.Named.{Named}
 use Rattle.sql_types.specs.declared.sql_type.SqlType.{SqlType, out-SqlType}
 use Rattle.sql_types.specs.declared.sql_type.SqlType.TheVariants as ty
@@ -27,7 +27,7 @@ use Rattle.sql_ast.specs.declared.clauses.When.{When}
 use Rattle.sql_ast.specs.declared.expr.Link.{Link}
 use Rattle.sql_ast.specs.declared.expr.Part.{Part}
 use Rattle.sql_ast.specs.declared.expr.Part.TheVariants as part
-use Rattle.sql_ast.specs.declared.expr.Expr.{Expr, out-Expr}
+use Rattle.sql_ast.specs.declared.expr.Expr.{Expr}
 use Rattle.sql_ast.specs.declared.expr.Expr.TheOpen as ast
 use Rattle.sql_ast.specs.declared.expr.Expr.TheOpen.{Expr-F, Primary-F, Term-F, FromItem-F, Joined-F, Query-F, Select-F}
 use Rattle.sql_ast.specs.declared.query.Cte.{Cte}
@@ -40,19 +40,18 @@ use Rattle.sql_coerce.specs.Supertypes.{supertype}
 use Rattle.sql_catalog.specs.declared.entries.Entries.{Entries}
 use Rattle.sql_rules.specs.declared.scope.Entry.{Entry}
 use Rattle.sql_rules.specs.declared.scope.Member.{Member}
-use Rattle.sql_rules.specs.declared.scope.What.{What}
 use Rattle.sql_rules.specs.declared.scope.What.TheVariants as what
 use Rattle.sql_rules.specs.declared.scope.Found.{Found}
 use Rattle.sql_rules.specs.declared.scope.Found.TheVariants.{Bound, Missing, Ambiguous}
-use Rattle.sql_rules.specs.Scopes.{found, entry_at, is_range, members_of}
+use Rattle.sql_rules.specs.Scopes.{found, is_range, members_of}
 use Rattle.sql_semantics.specs.Checks.{Checked, ◌>>=◌, broken, unless, in_turn, if_there}
 use Rattle.sql_semantics.specs.Sights.{Sight, CteColumns, inside, with_cte, for_struct, last_cte}
 use Rattle.sql_semantics.specs.Places.{place_of, implied_name, single_name, integer_literal}
-use Rattle.sql_semantics.specs.TypeNames.{written_type, field_types, is_array}
+use Rattle.sql_semantics.specs.TypeNames.{written_type, field_types}
 use Rattle.sql_semantics.specs.TypeForms.{literal, other, other_arg, untyped, type_of, needed, condition, integer_type, integer_value, date_literal, operator_type, operator_name, comparison_name, test_name, not_type, prefix_type, common_type, compared_type, element_of, field_type, cast_type, array_of, array_literal, struct_fields, one_column}
 use Rattle.sql_semantics.specs.Paths.{leading_names, path_type, path_element}
-use Rattle.sql_semantics.specs.FromScopes.{FromScope, no_from, columns_scope, unnest_scope, beside, repeats_range, UsingColumn, using_columns, using_scope}
-use Rattle.sql_semantics.specs.TypeCalls.{Defined, a_view, a_function, Written, expression, interval, call_type, safe_call_type, extract_type, has_modifier, part_arg, part_place}
+use Rattle.sql_semantics.specs.FromScopes.{FromScope, no_from, columns_scope, unnest_scope, beside, repeats_range, using_columns, using_scope}
+use Rattle.sql_semantics.specs.TypeCalls.{Defined, Written, expression, interval, call_type, safe_call_type, extract_type, has_modifier, part_arg, part_place}
 use Rattle.sql_semantics.specs.CatalogNames.{table_of, view_of, function_of, param_type}
 
 -- a form that isn't built yet

@@ -1,6 +1,5 @@
 -- The typing of whole texts: the layers tied, over the definitions of the catalog.
-use Rattle.std.specs.Prelude.{ℕ, Bool, true, false, List, [], ◌∷◌, ◌++◌, map, Option, None, Some, Result, Ok, Err}
-use Rattle.sql_types.specs.declared.sql_type.Named.{Named}
+use Rattle.std.specs.Prelude.{true, false, List, [], ◌∷◌, ◌++◌, map, Some, Ok}
 use Rattle.sql_types.specs.declared.sql_type.SqlType.{SqlType}
 use Rattle.sql_ast.specs.declared.expr.Expr.{Expr, para-Expr}
 use Rattle.sql_ast.specs.declared.query.Primary.{Primary, para-Primary}

@@ -1,21 +1,15 @@
 -- Which texts hold a form that isn't built yet. Such a text is refused by rule 2 at 0, before anything of it is typed.
 use Rattle.std.specs.Prelude.{ℕ, Bool, true, false, ◌||◌, List, [], ◌∷◌, codes, Option, None, Some}
-use Rattle.std.specs.List.{list_any}
 use Rattle.sql_names.specs.Words.{same_name}
-use Rattle.sql_ast.specs.declared.clauses.Aliased.{Aliased}
 use Rattle.sql_ast.specs.declared.clauses.Arg.{Arg as Argument}
 use Rattle.sql_ast.specs.declared.clauses.Arg.TheVariants as arg
-use Rattle.sql_ast.specs.declared.clauses.Binding.{Binding}
 use Rattle.sql_ast.specs.declared.clauses.Call.{Call}
 use Rattle.sql_ast.specs.declared.clauses.Edit.{Edit}
-use Rattle.sql_ast.specs.declared.clauses.FilterPart.{FilterPart}
 use Rattle.sql_ast.specs.declared.clauses.Item.{Item}
 use Rattle.sql_ast.specs.declared.clauses.Item.TheVariants as item
-use Rattle.sql_ast.specs.declared.clauses.LimitPart.{LimitPart}
 use Rattle.sql_ast.specs.declared.clauses.On.{On}
 use Rattle.sql_ast.specs.declared.clauses.On.TheVariants as on
 use Rattle.sql_ast.specs.declared.clauses.Turned.{Turned}
-use Rattle.sql_ast.specs.declared.clauses.When.{When}
 use Rattle.sql_ast.specs.declared.expr.Link.{Link}
 use Rattle.sql_ast.specs.declared.expr.Part.{Part}
 use Rattle.sql_ast.specs.declared.expr.Part.TheVariants as part
