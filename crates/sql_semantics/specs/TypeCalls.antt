@@ -15,7 +15,7 @@ use Rattle.sql_coerce.specs.declared.arg.Kind.TheVariants as kind
 use Rattle.sql_builtins.specs.declared.choice.Choice.{Choice}
 use Rattle.sql_builtins.specs.declared.sig.SigId.{SigId}
 use Rattle.sql_builtins.specs.declared.sig.SigId.TheVariants as sig
-use Rattle.sql_builtins.specs.Table.{signatures}
+use Rattle.sql_builtins.specs.Table.{functions}
 use Rattle.sql_builtins.specs.Choices.{chosen}
 use Rattle.sql_semantics.specs.Checks.{Checked, ◌>>=◌, broken, unless}
 use Rattle.sql_semantics.specs.TypeForms.{other, untyped, type_of, coerces_to}
@@ -53,7 +53,7 @@ lambda_functions = codes "ARRAY_FILTER" ∷ codes "ARRAY_TRANSFORM" ∷ []
 -- a name of the signature table that a call may name: operators that are signs or several words aren't
 abbrev pub is_function_name : List ℕ → Bool
 is_function_name name =
-    (list_any (λ row. same_name row.name name) signatures || list_any (same_name name) lambda_functions)
+    (list_any (λ row. same_name row.name name) functions || list_any (same_name name) lambda_functions)
     && all_letters (str_to_ascii_uppercase name) && not (list_any (same_name name) words)
 
 -- the functions that choose or catch, which SAFE doesn't take
