@@ -113,6 +113,6 @@ pub joins_fit : (gives : joined.Row → joined.Row → Meaning Bool) (kind : Joi
     list_all (fits_row cs) lefts ≡ true → list_all (fits_row ds) rights ≡ true → list_all (fits_row columns) rows ≡ true
 joins_fit gives kind columns cs ds left_width right_width lefts rights ls rs rows are left_is right_is lefts_are rights_are j left right =
     let rows_are : rows ≡ joined.joined kind (length cs) (length ds) lefts rights j.0 =
-      j.2 ∙ ap (λ (n : ℕ). joined.joined kind n right_width ls rs j.0) left_is ∙ ap (λ (n : ℕ). joined.joined kind (length cs) n ls rs j.0) right_is
-      ∙ ap (λ (z : List joined.Row). joined.joined kind (length cs) (length ds) z rs j.0) lefts_are ∙ ap (λ (z : List joined.Row). joined.joined kind (length cs) (length ds) lefts z j.0) rights_are in
+    j.2 ∙ ap (λ (n : ℕ). joined.joined kind n right_width ls rs j.0) left_is ∙ ap (λ (n : ℕ). joined.joined kind (length cs) n ls rs j.0) right_is
+    ∙ ap (λ (z : List joined.Row). joined.joined kind (length cs) (length ds) z rs j.0) lefts_are ∙ ap (λ (z : List joined.Row). joined.joined kind (length cs) (length ds) lefts z j.0) rights_are in
     ap (λ (z : List (Named SqlType)). list_all (fits_row z) rows) are ∙ ap (list_all (fits_row (cs ++ ds))) rows_are ∙ joined_fits cs ds kind lefts rights j.0 left right

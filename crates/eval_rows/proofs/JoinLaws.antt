@@ -113,7 +113,7 @@ unmet_alone left_width [] pairs wide = refl
 unmet_alone left_width (right ∷ rights) pairs wide =
     ap (unmet left_width (right ∷ rights)) (noted_first (length rights) false (replicate (length rights) false) pairs wide)
     ∙ unmet_by left_width right rights (first_kept pairs) (noted (replicate (length rights) false) (other_pairs pairs)) (alone left_width rights (other_pairs pairs))
-      (unmet_alone left_width rights (other_pairs pairs) (wide_others (length rights) pairs wide))
+    (unmet_alone left_width rights (other_pairs pairs) (wide_others (length rights) pairs wide))
 
 unmet_right : (kind : JoinKind) (left_width : ℕ) (rights : List Row) (pairs : Pairs) → Wide (length rights) pairs → from_unmet kind left_width rights (noted (replicate (length rights) false) pairs) ≡ from_right kind left_width rights pairs
 unmet_right join.Right left_width rights pairs wide = unmet_alone left_width rights pairs wide
@@ -191,12 +191,14 @@ module _ (gives : Row → Row → Meaning Bool) (kind : JoinKind) (right_width :
       let had_is : after_had ≡ either_each had kept = had_are ∙ ap (either_each had) noted_is in
       subst (λ (z : List Row). JoinedSo (take (i + 1) lefts) z after_had) (sym after_is)
       (subst (λ (z : List Bool). JoinedSo (take (i + 1) lefts) (rows ++ padded_right kind right_width left (met left rights kept)) z) (sym had_is)
-        (joined_more lefts rows had i left kept within is so (subst (λ (z : Row). Answered gives z rights (Ok kept)) asked_is each)))
+      (joined_more lefts rows had i left kept within is so (subst (λ (z : Row). Answered gives z rights (Ok kept)) asked_is each)))
 
   pub all_joined : (left_width : ℕ) (lefts rows : List Row) (had : List Bool) (i : ℕ) → length lefts ≤ i → JoinedSo (take i lefts) rows had → Joins gives kind left_width right_width lefts rights (Ok (rows ++ from_unmet kind left_width rights had))
   all_joined left_width lefts rows had i past so =
-      let whole : JoinedSo lefts rows had = subst (λ (z : List Row). JoinedSo z rows had) (take_all i lefts past) so in
-      (whole.pairs, whole.answered,
+      let whole : JoinedSo lefts rows had = subst (λ (z : List Row). JoinedSo z rows had) (take_all i lefts past) so in (
+        whole.pairs,
+        whole.answered,
         ap (λ z. z ++ from_unmet kind left_width rights had) whole.rows_are
-        ∙ ap (λ z. from_left kind right_width lefts rights whole.pairs ++ z)
-          (ap (from_unmet kind left_width rights) whole.had_are ∙ unmet_right kind left_width rights whole.pairs (wide_from lefts whole.pairs whole.answered)))
+            ∙ ap (λ z. from_left kind right_width lefts rights whole.pairs ++ z)
+            (ap (from_unmet kind left_width rights) whole.had_are ∙ unmet_right kind left_width rights whole.pairs (wide_from lefts whole.pairs whole.answered)),
+      )

@@ -12,11 +12,13 @@ loop-place-preserved c =
     let i = c.loop-place.place in
     let few : i < length c.args.had = omega arith in
     elim c.if-keep.branch [
-        then-keep w ↦
-            let put = w.had-is ∙ w.set.ensures in
-            (put ∙ ap (λ (z : List Bool). set z i true) c.loop-place.invariant.0 ∙ noted_true c.args.had c.args.kept.now i _ few c.loop-place-test.true w.if-keep.true,
-              ap length put ∙ length-set c.loop-place.had i true ∙ c.loop-place.invariant.1)
-        | else-keep w ↦
-            (w.had-is ∙ c.loop-place.invariant.0 ∙ noted_false c.args.had c.args.kept.now i _ few c.loop-place-test.true w.if-keep.false,
-              ap length w.had-is ∙ c.loop-place.invariant.1)
+      | then-keep w ↦
+          let put = w.had-is ∙ w.set.ensures in (
+            put ∙ ap (λ (z : List Bool). set z i true) c.loop-place.invariant.0 ∙ noted_true c.args.had c.args.kept.now i _ few c.loop-place-test.true w.if-keep.true,
+            ap length put ∙ length-set c.loop-place.had i true ∙ c.loop-place.invariant.1,
+          )
+      | else-keep w ↦ (
+        w.had-is ∙ c.loop-place.invariant.0 ∙ noted_false c.args.had c.args.kept.now i _ few c.loop-place-test.true w.if-keep.false,
+        ap length w.had-is ∙ c.loop-place.invariant.1,
+      )
     ]

@@ -13,4 +13,4 @@ loop-right-preserved g c =
     let keep = c.in-Ok.keep in
     subst (λ (kept : List Bool). Answered gives left (take (i + 1) rights) (Ok kept)) (sym c.in_ok-push-in-Ok.ensures.ok)
     (answered_more gives left rights i c.right-item.result c.loop-right.kept keep c.loop-right-test.true c.right-item.is c.loop-right.invariant
-      (subst (λ (right : Row). gives left right (Ok keep)) c.as_slice.ensures c.in-Ok.ensures))
+    (subst (λ (right : Row). gives left right (Ok keep)) c.as_slice.ensures c.in-Ok.ensures))
