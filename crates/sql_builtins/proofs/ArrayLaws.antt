@@ -14,7 +14,7 @@ use Rattle.sql_coerce.specs.Coercions.{coerces, other_coerces, literal_layer, pa
 use Rattle.sql_coerce.proofs.Levels.{other_coerces_level, other_at}
 use Rattle.sql_builtins.specs.declared.coercion.Coercion.{Coercion}
 use Rattle.sql_builtins.specs.declared.coercion.Coercion.TheVariants.{Free, OfLiteral, OfOther}
-use Rattle.sql_builtins.specs.Steps.{coercion_by, array_coercion, charged, unless_same}
+use Rattle.sql_builtins.specs.Steps.{coercion_by, array_coercion, charged}
 
 untyped_by : (x : t.SqlType-F SqlType) (e : SqlType) → untyped_layer x (t.Array e) ≡ true
 untyped_by (t.Array own) e = refl

@@ -7,7 +7,7 @@ use Rattle.sql_coerce.specs.declared.arg.Arg.{Arg}
 use Rattle.sql_coerce.specs.Supertypes.{supertype}
 use Rattle.sql_builtins.specs.declared.table.Slot.{Slot}
 use Rattle.sql_builtins.specs.Table.{Signature}
-use Rattle.sql_builtins.specs.Choices.{Cost, Applied, slot_type, target_types, places, meets, all_coerce, cost_of, is_common, is_element, is_array_of_element, standing, first_element, element_type, common_type, applied_by, applied_at, applied}
+use Rattle.sql_builtins.specs.Choices.{Cost, Applied, slot_type, target_types, places, meets, all_coerce, cost_of, is_common, is_element, is_array_of_element, standing, first_element, element_type, applied_by, applied_at, applied}
 use Rattle.sql_builtins.specs.Steps.{cost_at, improves, better_than, at_end}
 use Rattle.std.specs.List.{list_all}
 use Rattle.sql_builtins.proofs.StepLaws.{cost_at-whole}

@@ -1,6 +1,6 @@
 -- What is chosen: a row of the table, and values that fit its targets fit it.
-use Rattle.std.proofs.Common.{◌≡◌, ℕ, zero, suc, ◌<◌, ◌≤◌, Bool, true, false, cond, List, [], ◌∷◌, length, map, Option, Some, None, refl, ap, sym, ◌∙◌, subst, arith}
-use Rattle.std.specs.Prelude.{◌&&◌, option_map, option_and_then, Contains, slice_index_or}
+use Rattle.std.proofs.Common.{◌≡◌, ℕ, suc, Bool, true, false, cond, List, [], ◌∷◌, length, Option, Some, None, refl, ap, sym, ◌∙◌, subst, arith}
+use Rattle.std.specs.Prelude.{◌&&◌, option_map, option_and_then, Contains}
 use Rattle.std.specs.List.{filter_map, cons_option, list_all}
 use Rattle.std.specs.Str.{str_eq_ignore_ascii_case}
 use Rattle.sql_types.specs.declared.sql_type.SqlType.{SqlType}
@@ -12,7 +12,7 @@ use Rattle.sql_coerce.specs.declared.arg.Arg.{Arg}
 use Rattle.sql_builtins.specs.declared.choice.Choice.{Choice}
 use Rattle.sql_builtins.specs.declared.table.Slot.{Slot}
 use Rattle.sql_builtins.specs.Table.{Signature, signatures}
-use Rattle.sql_builtins.specs.Choices.{Cost, Applied, own_type, slot_type, target_types, places, meets, all_coerce, cost_of, element_type, common_type, applied_by, applied_at, applied, cheaper, cheapest_from, cheapest, rows_of, chosen_of, chosen}
+use Rattle.sql_builtins.specs.Choices.{Applied, own_type, slot_type, target_types, places, meets, all_coerce, cost_of, element_type, common_type, applied_by, applied_at, applied, cheaper, cheapest_from, cheapest, rows_of, chosen_of, chosen}
 use Rattle.sql_builtins.specs.Fitting.{Fitting, place_types}
 use Rattle.sql_builtins.specs.Steps.{ends_open}
 use Rattle.sql_builtins.proofs.PlaceLaws.{some-same, and-left, and-right, places-length}

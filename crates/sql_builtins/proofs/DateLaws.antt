@@ -1,12 +1,10 @@
 -- Calls on dates without a part of that name.
-use Rattle.std.proofs.Common.{◌≡◌, Bool, true, false, List, Option, Some, None, refl, ap, sym, ◌∙◌}
-use Rattle.std.specs.Prelude.{ℤ, ◌-ℤ◌, neg_ℤ, is_some, Result, Ok, Err}
+use Rattle.std.proofs.Common.{◌≡◌, false, List, Option, Some, None, refl, ap, sym}
+use Rattle.std.specs.Prelude.{◌-ℤ◌, neg_ℤ, is_some, Ok}
 use Rattle.sql_types.specs.declared.value.Value.{Value}
 use Rattle.sql_types.specs.declared.value.Value.TheVariants.{Null, Int}
 use Rattle.sql_types.specs.declared.fault.FaultKind.TheVariants.{OutOfRange}
 use Rattle.sql_types.specs.Outcome.{Outcome}
-use Rattle.sql_dates.specs.declared.part.DatePart.{DatePart}
-use Rattle.sql_dates.specs.declared.part.DateField.{DateField}
 use Rattle.sql_dates.specs.Apply as d
 use Rattle.sql_dates.specs.Parts.{parts_after, part_index, part_start, field_of}
 use Rattle.sql_dates.specs.Arguments.{date_at, int_at, part_at, field_at, unless_null, answered}

@@ -1,5 +1,5 @@
 -- Where no argument is left, and where the arguments of an open type begin.
-use Rattle.std.proofs.Common.{◌≡◌, ℕ, suc, ◌+◌, ◌<◌, true, List, [], ◌∷◌, ◌++◌, length, drop, get_or, None, refl, ap, sym, ◌∙◌, arith, drop-cons}
+use Rattle.std.proofs.Common.{◌≡◌, ℕ, suc, ◌<◌, true, List, [], ◌∷◌, ◌++◌, length, drop, get_or, None, refl, ap, sym, ◌∙◌, arith, drop-cons}
 use Rattle.std.specs.Prelude.{Bool}
 use Rattle.std.proofs.lemmas.Grind.{common_steps}
 use Rattle.sql_types.specs.declared.sql_type.SqlType.{SqlType}

@@ -1,5 +1,5 @@
 -- A signature has one row of the table at most.
-use Rattle.std.proofs.Common.{◌≡◌, List, [], ◌∷◌, Option, Some, None, refl, ap, sym, ◌∙◌}
+use Rattle.std.proofs.Common.{◌≡◌, [], ◌∷◌, Option, Some, None, refl, ap, sym, ◌∙◌}
 use Rattle.std.specs.Prelude.{codes, Contains}
 use Rattle.sql_builtins.specs.declared.sig.SigId.{SigId}
 use Rattle.sql_builtins.specs.declared.sig.SigId.TheVariants as sig

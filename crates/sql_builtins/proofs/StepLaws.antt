@@ -13,8 +13,8 @@ use Rattle.sql_builtins.specs.declared.coercion.Coercion.{Coercion}
 use Rattle.sql_builtins.specs.declared.coercion.Coercion.TheVariants.{Free, OfLiteral, OfOther}
 use Rattle.sql_builtins.specs.declared.table.Slot.{Slot}
 use Rattle.sql_builtins.specs.Table.{Signature}
-use Rattle.sql_builtins.specs.Choices.{Cost, Applied, own_type, slot_type, target_types, coerces_by, all_coerce, with_argument, cost_of, more_others, more_literals, cheaper, cheapest, cheapest_from, rows_of, applied}
-use Rattle.sql_builtins.specs.Steps.{charged, coercion_by, coercion_at, with_coercion, behind_coercion, cost_at, with_more, improves, better_than, best_after, cheapest_behind}
+use Rattle.sql_builtins.specs.Choices.{Cost, Applied, own_type, slot_type, target_types, coerces_by, all_coerce, with_argument, cost_of, more_others, more_literals, cheaper, cheapest_from, rows_of, applied}
+use Rattle.sql_builtins.specs.Steps.{charged, coercion_by, coercion_at, with_coercion, behind_coercion, cost_at, with_more, better_than, best_after, cheapest_behind}
 
 -- ---- costs
 

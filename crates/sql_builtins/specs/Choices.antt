@@ -1,5 +1,5 @@
 -- The choice among the rows of the signature table.
-use Rattle.std.specs.Prelude.{ℕ, suc, ◌+◌, ◌-◌, ◌==◌, nat_lt, nat_le, Bool, true, false, ◌&&◌, ◌||◌, if◌then◌else◌, List, [], ◌∷◌, ◌++◌, map, length, take, replicate, Option, None, Some, option_map, option_and_then, is_none}
+use Rattle.std.specs.Prelude.{ℕ, suc, ◌-◌, ◌==◌, nat_lt, nat_le, Bool, true, false, ◌&&◌, ◌||◌, if◌then◌else◌, List, [], ◌∷◌, ◌++◌, length, take, replicate, Option, None, Some, option_map, option_and_then, is_none}
 use Rattle.std.specs.List.{last_or, filter_map}
 use Rattle.std.specs.Str.{str_eq_ignore_ascii_case}
 use Rattle.sql_types.specs.declared.sql_type.SqlType.{SqlType, out-SqlType}
@@ -12,7 +12,6 @@ use Rattle.sql_coerce.specs.declared.arg.Kind.TheVariants as kind
 use Rattle.sql_types.specs.SameType.{same_type}
 use Rattle.sql_coerce.specs.Coercions.{coerces}
 use Rattle.sql_coerce.specs.Supertypes.{supertype}
-use Rattle.sql_builtins.specs.declared.sig.SigId.{SigId}
 use Rattle.sql_builtins.specs.declared.choice.Choice.{Choice}
 use Rattle.sql_builtins.specs.declared.table.Slot.{Slot}
 use Rattle.sql_builtins.specs.declared.table.Slot.TheVariants as slot

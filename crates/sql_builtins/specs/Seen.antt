@@ -1,5 +1,4 @@
 -- A row of the code's table as the signature that it is.
-use Rattle.std.specs.Prelude.{ℕ, List}
 use Rattle.sql_builtins.specs.declared.table.Row.{Row}
 use Rattle.sql_builtins.specs.Table.{Signature}
 

@@ -1,5 +1,5 @@
 -- The choice among rows, step by step, in the words of the choice.
-use Rattle.std.specs.Prelude.{ℕ, ◌+◌, Bool, true, false, ◌&&◌, if◌then◌else◌, List, [], ◌∷◌, Option, None, Some}
+use Rattle.std.specs.Prelude.{ℕ, ◌+◌, Bool, true, ◌&&◌, if◌then◌else◌, List, [], ◌∷◌, Option, None, Some}
 use Rattle.std.specs.List.{list_all}
 use Rattle.sql_types.specs.declared.sql_type.SqlType.{SqlType}
 use Rattle.sql_types.specs.declared.sql_type.SqlType.TheOpen as t
@@ -11,7 +11,6 @@ use Rattle.sql_coerce.specs.Coercions.{coerces}
 use Rattle.sql_builtins.specs.declared.coercion.Coercion.{Coercion}
 use Rattle.sql_builtins.specs.declared.coercion.Coercion.TheVariants.{Free, OfLiteral, OfOther}
 use Rattle.sql_builtins.specs.declared.table.Slot.{Slot}
-use Rattle.sql_builtins.specs.Table.{Signature}
 use Rattle.sql_builtins.specs.Choices.{Cost, Applied, own_type, slot_type, more_others, more_literals, cheaper, cheapest, cheapest_from, is_common, is_element}
 
 -- ---- coercions

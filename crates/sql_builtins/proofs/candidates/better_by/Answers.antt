@@ -1,5 +1,4 @@
-use Rattle.std.proofs.Common.{◌≡◌, Bool, true, sym, ◌∙◌, rules}
-use Rattle.std.specs.Prelude.{◌&&◌}
+use Rattle.std.proofs.Common.{◌≡◌, true, sym, ◌∙◌}
 use Rattle.sql_builtins.specs.Choices as choices
 use Rattle.sql_builtins.specs.Seen.{seen}
 use Rattle.sql_builtins.proofs.BetterLaws.{both-true, better-worse, better-found, better-apart}
