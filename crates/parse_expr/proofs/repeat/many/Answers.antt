@@ -21,7 +21,7 @@ items-preserved g c =
 pub returns-in_err-next-clause-reads : goal.returns-in_err-next-clause-reads
 returns-in_err-next-clause-reads g c = λ reader h.
     let w = item_refused c.args.tokens.now (marked c.args.mark) reader _ c.items.found c.items.at (c.items.invariant.going reader h) (sym c.sees.ensures ∙ c.items-test.true) c.in_err-next.field-0.0
-        (h c.items.at (Err c.in_err-next.field-0.0) c.in_err-next.ensures) in
+    (h c.items.at (Err c.in_err-next.field-0.0) c.in_err-next.ensures) in
     let p = err_from_is_err_and c.from_residual.result c.from_residual.ensures.1 in
     first_of (search (rules, w), grind (arith, common_steps, w))
 

@@ -29,7 +29,7 @@ comma_fields-fields-preserved t c = let up = c.in_ok-next.ensures.moves in recor
 pub comma_fields-returns-in_err-next-clause-reads : goal.comma_fields-returns-in_err-next-clause-reads
 comma_fields-returns-in_err-next-clause-reads t c =
     let w = item_refused c.args.tokens.now (spec.sign sign.Comma) (words.comma_field (turns c.args.tokens.now) (words.starts_type c.args.levels) (words.type_at (turns c.args.tokens.now) c.args.levels)) _ c.fields.found c.fields.at c.fields.invariant.going
-        (sym c.sees.ensures ∙ c.fields-test.true) c.in_err-next.field-0.0 c.in_err-next.ensures.reads in
+    (sym c.sees.ensures ∙ c.fields-test.true) c.in_err-next.field-0.0 c.in_err-next.ensures.reads in
     let p = err_from_is_err_and c.from_residual.result c.from_residual.ensures.1 in
     first_of (search (rules, w), grind (arith, common_steps, w))
 
