@@ -1,5 +1,5 @@
 -- What a sort by all rows' order says of rows of one table.
-use Rattle.std.proofs.Common.{◌≡◌, ℕ, zero, suc, [], ◌∷◌, Some, None, Bool, true, false, ◌&&◌, List, reverse, refl, sym, ap, subst}
+use Rattle.std.proofs.Common.{◌≡◌, ℕ, zero, suc, [], ◌∷◌, Some, None, Bool, true, false, ◌&&◌, List, reverse, ap, subst}
 use Rattle.std.specs.List.{list_all, slice_get}
 use Rattle.std.specs.List.Sorted.{IsPermutation, IsSortedBy}
 use Rattle.std.specs.Ordering.{is_lt}
@@ -38,15 +38,3 @@ pub sorted_arranged : (items : List SortItem) (columns : List (Named SqlType)) (
     list_all (fits_row columns) rows ≡ true → orders_columns columns items ≡ true → Arranged items rows list
 sorted_arranged items columns rows moved list is permutation sorted all orders =
     arranged_from_sorted items columns rows list (turned rows moved list is permutation) sorted (sorted_fits (fits_row columns) rows moved list is permutation all) orders
-
--- ---- the column that an item names
-
-pub orders_some : (columns : List (Named SqlType)) (place : ℕ) (column : Named SqlType) → slice_get columns place ≡ Some column → orderable column.ty ≡ orders_column columns place
-orders_some [] place column is = cc
-orders_some (c ∷ cs) zero column is = let same : c ≡ column = cc in ap (λ (z : Named SqlType). orderable z.ty) (sym same)
-orders_some (c ∷ cs) (suc place) column is = orders_some cs place column is
-
-pub orders_none : (columns : List (Named SqlType)) (place : ℕ) → slice_get columns place ≡ None → true ≡ orders_column columns place
-orders_none [] place is = refl
-orders_none (c ∷ cs) zero is = cc
-orders_none (c ∷ cs) (suc place) is = orders_none cs place is

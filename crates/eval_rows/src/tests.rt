@@ -186,14 +186,17 @@ fn can_sort(columns: &Columns, items: &[SortItem]) -> bool
     true
 }
 
-#[tactic(auto, using(crate::proofs::SortLaws::orders_some, crate::proofs::SortLaws::orders_none))]
-fn orders_by(columns: &[Column], place: usize) -> bool
-    ensures { result ≡ orders_column columns.now place }
+fn orders_by(mut columns: &[Column], mut place: usize) -> bool
+    ensures { result ≡ orders_column columns.entry.now place.entry }
 {
-    match columns.get(place) {
-        Some(column) => orderable(&column.ty),
-        None => true,
+    'columns: while let [column, rest @ ..] = columns {
+        if place == 0 {
+            return orderable(&column.ty);
+        }
+        columns = rest;
+        place -= 1;
     }
+    true
 }
 
 /// How many are skipped and taken of five rows.
