@@ -1,6 +1,6 @@
 -- What a sort by all rows' order says of rows of one table.
-use Rattle.std.proofs.Common.{◌≡◌, ℕ, zero, suc, [], ◌∷◌, Some, None, Bool, true, false, ◌&&◌, List, reverse, ap, subst}
-use Rattle.std.specs.List.{list_all, slice_get}
+use Rattle.std.proofs.Common.{◌≡◌, Bool, true, false, ◌&&◌, List, reverse, subst}
+use Rattle.std.specs.List.{list_all}
 use Rattle.std.specs.List.Sorted.{IsPermutation, IsSortedBy}
 use Rattle.std.specs.Ordering.{is_lt}
 use Rattle.std.proofs.lemmas.List.Sorted.{IsPermutation-reverse, IsPermutation-trans}
@@ -8,10 +8,9 @@ use Rattle.sql_types.specs.declared.kinds.SortItem.{SortItem}
 use Rattle.sql_types.specs.declared.sql_type.Named.{Named}
 use Rattle.sql_types.specs.declared.sql_type.SqlType.{SqlType}
 use Rattle.sql_types.specs.Arranged.{Arranged, Permutes, permutes_none, permutes_skip, permutes_swap, permutes_then}
-use Rattle.sql_types.specs.Comparable.{orderable}
 use Rattle.sql_types.specs.Fits.{fits_row}
 use Rattle.sql_types.specs.Joined.{Row}
-use Rattle.sql_types.specs.Sorting.{whole_rows_order, orders_column, orders_columns}
+use Rattle.sql_types.specs.Sorting.{whole_rows_order, orders_columns}
 use Rattle.sql_types.proofs.ArrangedLaws.{permutes_from_std, arranged_from_sorted}
 use Rattle.sql_types.proofs.TestParts.{first, second}
 use Rattle.eval_rows.proofs.FitLaws.{both}
