@@ -1,3 +1,4 @@
-pub mod Reads
 pub mod Marked
+pub mod Nests
+pub mod Reads
 pub mod TypeStarts
