@@ -187,7 +187,7 @@ fn can_sort(columns: &Columns, items: &[SortItem]) -> bool
 }
 
 fn orders_by(mut columns: &[Column], mut place: usize) -> bool
-    ensures { result ≡ orders_column columns.entry.now place.entry }
+    ensures { result ≡ orders_column columns.entry.now place }
 {
     'columns: while let [column, rest @ ..] = columns {
         if place == 0 {
