@@ -1,11 +1,7 @@
 //! The kernels over rows of two INT64 columns. In a text `N` stands for NULL, and `|` ends a row.
-ghost use Rattle.std.specs.Prelude.{◌≡◌};
-ghost use Rattle.sql_types.specs.Sorting.{orders_column, orders_columns};
-
 use crate::*;
 use sql_types::{
-    CallFault, Column, Columns, FaultKind, Items, JoinKind, Named, Rows, SortItem, SqlType, Value,
-    Values, equal, orderable, row_fits,
+    CallFault, FaultKind, Items, JoinKind, Named, Rows, SqlType, Value, Values, equal, row_fits,
 };
 use std::alloc::{AllocError, Global};
 use std::test::Fail;
@@ -124,6 +120,7 @@ fn faults_of_a_test(rt: HostRuntime) -> Result<(), Fail> {
     Ok(())
 }
 
+/// Five rows.
 const UNSORTED: [Pair; 5] = [
     (Some(2), Some(1)),
     (None, Some(2)),
@@ -131,73 +128,6 @@ const UNSORTED: [Pair; 5] = [
     (Some(i64::MAX), None),
     (Some(1), Some(1)),
 ];
-
-/// By the first column and then by the second: descending or not, and with NULL first or not, in each.
-const SORTED: [([(bool, bool); 2], &str); 4] = [
-    (
-        [(false, true), (false, true)],
-        "N 2|1 1|1 3|2 1|9223372036854775807 N|",
-    ),
-    (
-        [(true, false), (true, false)],
-        "9223372036854775807 N|2 1|1 3|1 1|N 2|",
-    ),
-    (
-        [(false, false), (true, true)],
-        "1 3|1 1|2 1|9223372036854775807 N|N 2|",
-    ),
-    (
-        [(true, true), (false, false)],
-        "N 2|9223372036854775807 N|2 1|1 1|1 3|",
-    ),
-];
-
-#[test]
-fn sorts(rt: HostRuntime) -> Result<(), Fail> {
-    let alloc = rt.alloc();
-    for (orders, want) in SORTED {
-        let mut items = Items::new(alloc);
-        for (place, (descending, nulls_first)) in orders.iter().enumerate() {
-            items.push(SortItem {
-                place,
-                descending: *descending,
-                nulls_first: *nulls_first,
-            })?;
-        }
-        let rows = rows_of(alloc, &UNSORTED)?;
-        assert!(rt; can_sort(&rows.columns, items.as_slice()));
-        assert_eq!(rt;
-            text_of(alloc, &sort_rows(alloc, rows, &items)?)?.as_str(),
-            want
-        );
-    }
-    Ok(())
-}
-
-/// Whether each item goes by a column of an orderable type.
-fn can_sort(columns: &Columns, items: &[SortItem]) -> bool
-    ensures { result ≡ orders_columns columns.now items.now }
-{
-    for item in items {
-        if !orders_by(columns.as_slice(), item.place) {
-            return false;
-        }
-    }
-    true
-}
-
-fn orders_by(mut columns: &[Column], mut place: usize) -> bool
-    ensures { result ≡ orders_column columns.entry.now place }
-{
-    'columns: while let [column, rest @ ..] = columns {
-        if place == 0 {
-            return orderable(&column.ty);
-        }
-        columns = rest;
-        place -= 1;
-    }
-    true
-}
 
 /// How many are skipped and taken of five rows.
 const CUTS: [(u64, u64, &str); 12] = [
