@@ -11,9 +11,7 @@ use Rattle.parse_expr.specs.declared.starts.Start.{Start}
 use Rattle.parse_expr.specs.declared.starts.Start.TheVariants as start
 use Rattle.parse_expr.specs.declared.starts.Opening.{Opening}
 use Rattle.parse_expr.specs.declared.starts.Opening.TheVariants as opening
-use Rattle.parse_expr.specs.declared.starts.Held.{Held}
-use Rattle.parse_expr.specs.declared.starts.Held.TheVariants as held
-use Rattle.parse_expr.specs.Reads.{from, nested, Reads}
+use Rattle.parse_words.specs.Reads.{from, nested, Reads}
 
 -- an expression from its first token on, or behind a basic expression that it begins with
 abbrev pub started : Below → Start → Parser Expr
@@ -25,11 +23,6 @@ abbrev pub opened : Below → Opening → Parser Query
 opened b opening.Fresh = b.query
 opened b (opening.With t) = b.more (g.with_read t)
 opened b (opening.Term a place) = b.more (g.term_read a place)
-
--- what parentheses hold
-abbrev pub content : Held → g.Held
-content (held.Query q) = g.held_query q
-content (held.Exprs xs) = g.held_exprs xs
 
 -- a function that reads expressions and one that reads queries, from each token behind one
 pub record Nests (text : Tokens) (first : ℕ)

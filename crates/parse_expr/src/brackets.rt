@@ -1,14 +1,14 @@
 //! Expressions behind a token, and in brackets.
 ghost use Rattle.std.specs.Prelude.{◌<◌, ◌≤◌, IfOk};
 ghost use Rattle.sql_grammar.specs.Exprs as exprs;
-ghost use Rattle.parse_expr.specs.Marked.{marked};
+ghost use Rattle.parse_words.specs.Marked.{marked};
 ghost use Rattle.parse_expr.specs.Nests.{Nests};
-ghost use Rattle.parse_expr.specs.Reads.{from, reading, Reads};
+ghost use Rattle.parse_words.specs.Reads.{from, reading, Reads};
 
-use crate::cursor::{Read, expect};
-use crate::marks::Mark;
 use crate::reader::Reader;
 use crate::starts::{Opening, Start};
+use parse_words::cursor::{Read, expect};
+use parse_words::marks::Mark;
 use sql_ast::{Expr, Query, Sign};
 
 impl<'a, E: Fn(usize, Start) -> Read<Expr>, Q: Fn(usize, Opening) -> Read<Query>> Reader<'a, E, Q> {

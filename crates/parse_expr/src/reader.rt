@@ -1,20 +1,13 @@
 //! Reads expressions. What stands deeper in the text is read by two functions that the reader is given.
 ghost use Rattle.std.specs.Prelude.{◌<◌, ◌≤◌, IfOk};
 ghost use Rattle.parse_expr.specs.Nests.{Nests};
-ghost use Rattle.parse_expr.specs.Reads.{from, nested, Reads};
+ghost use Rattle.parse_words.specs.Reads.{from, nested, Reads};
 
-use crate::cursor::Read;
 use crate::starts::{Opening, Start};
-use sql_ast::{Expr, Query, Token};
+use parse_words::cursor::Read;
+use sql_ast::{Expr, Query};
 use sql_lexer::Tokens;
-use sql_types::Items;
 use std::alloc::Global;
-
-/// Items of a repetition, and what has ended it, if not the next token.
-pub type Ended<T, E> = (Items<T>, Option<E>);
-
-/// An expression, and a `>` behind it that begins no `>>`, if it was read.
-pub type Pending = (Expr, Option<Token>);
 
 /// Reads the expressions of a text. Its methods read from a place on, at `from` or behind it; what stands behind a token that
 /// was read, in brackets or behind a word, is deeper, and read by the two functions.

@@ -1,6 +1,5 @@
-//! What was read of an expression, a query or the content of parentheses before it was known which it is.
+//! What was read of an expression or a query before it was known which it is.
 use sql_ast::{Expr, Query, Term, Token};
-use sql_types::Items;
 
 /// Where an expression that stands deeper begins.
 #[derive(Drop)]
@@ -20,11 +19,4 @@ pub enum Opening {
     With { word: Token },
     /// Behind its first term, a query in brackets, which begins at this byte.
     Term { term: Term, place: u64 },
-}
-
-/// What parentheses hold: a query, or expressions.
-#[derive(Drop)]
-pub enum Held {
-    Query { query: Query },
-    Exprs { exprs: Items<Expr> },
 }

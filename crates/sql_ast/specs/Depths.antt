@@ -80,14 +80,14 @@ abbrev pub on_depth : On ℕ → ℕ
 on_depth (on.On condition place) = condition
 on_depth (on.Using columns place) = 0
 
--- PIVOT and UNPIVOT add 4
+-- PIVOT and UNPIVOT add 4 to the paths through them; the name of PIVOT's input is a path
 abbrev pub turn_depth : Turn ℕ → ℕ
-turn_depth (turn.Pivot aggregates input values place) = max (deepest (λ k. call_depth k.call) aggregates) (deepest (λ v. v.expr) values)
-turn_depth (turn.Unpivot include_nulls value label columns place) = 0
+turn_depth (turn.Pivot aggregates input values place) = 4 + max (deepest (λ k. call_depth k.call) aggregates) (max (length input - 1) (deepest (λ v. v.expr) values))
+turn_depth (turn.Unpivot include_nulls value label columns place) = 4
 
 abbrev pub turned : ℕ → Option (Turned ℕ) → ℕ
 turned below None = below
-turned below (Some t) = 4 + max below (turn_depth t.turn)
+turned below (Some t) = max below (turn_depth t.turn)
 
 -- grouping sets add 4
 abbrev pub group_item_depth : GroupItem ℕ → ℕ

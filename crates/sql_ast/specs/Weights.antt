@@ -145,9 +145,9 @@ pivot_call_weight k = call_weight k.call + alias_weight k.alias
 abbrev pub unpivot_column_weight : UnpivotColumn → ℕ
 unpivot_column_weight c = name_weight c.name + if_there length_weight c.label
 
--- PIVOT counts its aggregates once per value
+-- PIVOT counts its aggregates once per value; the name of its input is a path, each part of which after its first counts 1
 abbrev pub turn_weight : Turn ℕ → ℕ
-turn_weight (turn.Pivot aggregates input values place) = length values * sum pivot_call_weight aggregates + (names_weight input + sum aliased_weight values)
+turn_weight (turn.Pivot aggregates input values place) = length values * sum pivot_call_weight aggregates + ((length input - 1) + (names_weight input + sum aliased_weight values))
 turn_weight (turn.Unpivot include_nulls value label columns place) = name_weight value + (name_weight label + sum unpivot_column_weight columns)
 
 abbrev pub turned_weight : Turned ℕ → ℕ
@@ -270,7 +270,7 @@ term_weight (Term-F.«Term::Query» query place) = query
 abbrev pub select_weight : Select-F ℕ ℕ ℕ ℕ ℕ ℕ ℕ → ℕ
 select_weight s =
     1 + (times s.grouping * sum item_weight s.items + (clause its_own s.from + (clause its_own s.filter
-    + (clause (λ g. grouping_sets g * groups_weight g) s.grouping + clause (λ h. times s.grouping * h.test) s.having))))
+    + (clause (λ g. grouping_sets g * groups_weight g) s.grouping + if_there (λ h. times s.grouping * (1 + h.test)) s.having))))
 
 abbrev pub limit_weight : LimitPart ℕ → ℕ
 limit_weight limit = limit.count + if_there its_own limit.offset

@@ -102,7 +102,7 @@ fn write_quoted_date(out: &mut Vec<u8>, day: i32) -> Result<(), AllocError>
 }
 
 /// Writes a BYTES literal.
-fn write_bytes(out: &mut Vec<u8>, bytes: &[u8]) -> Result<(), AllocError>
+pub fn write_bytes(out: &mut Vec<u8>, bytes: &[u8]) -> Result<(), AllocError>
     ensures { OnOk result (out.new.items ≡ out.old.items ++ literals.quote_bytes bytes.now) }
 {
     out.extend_from_slice(b"b\"")?;

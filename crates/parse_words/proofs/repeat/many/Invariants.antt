@@ -1,9 +1,9 @@
 use Rattle.std.proofs.Common.{ℕ, ◌≤◌, ◌-◌, length}
 use Rattle.fronts.specs.Readers.{many, Going}
 use Rattle.sql_grammar.specs.Ways.{Parser}
-use Rattle.parse_expr.specs.Marked.{marked}
-use Rattle.parse_expr.specs.Reads.{from, turns, Reads}
-use Rattle.parse_expr.proofs.repeat.many.Given as goal
+use Rattle.parse_words.specs.Marked.{marked}
+use Rattle.parse_words.specs.Reads.{from, turns, Reads}
+use Rattle.parse_words.proofs.repeat.many.Given as goal
 
 abbrev pub invariant-items : goal.invariant-items
 invariant-items g l = record {

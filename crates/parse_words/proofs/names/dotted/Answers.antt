@@ -1,6 +1,6 @@
 use Rattle.std.proofs.Common.{rules}
 use Rattle.sql_grammar.specs.Words.{dotted, dot_name}
-use Rattle.parse_expr.proofs.names.dotted.Goals as goal
+use Rattle.parse_words.proofs.names.dotted.Goals as goal
 
 pub returns-clause-reads : goal.returns-clause-reads
 unfolding dotted

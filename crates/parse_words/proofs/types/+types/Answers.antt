@@ -7,11 +7,11 @@ use Rattle.sql_ast.specs.Marks as spec
 use Rattle.sql_grammar.specs.Classes.{a_type_name, an_array_type, a_struct_type, no_type}
 use Rattle.sql_grammar.specs.Words as words
 use Rattle.sql_grammar.specs.Words.{struct_type}
-use Rattle.parse_expr.specs.Reads.{from, turns}
-use Rattle.parse_expr.proofs.Loops.{item_refused}
-use Rattle.parse_expr.proofs.Refusals.{refused_here}
-use Rattle.parse_expr.proofs.TypeLevels.{type_levels}
-use Rattle.parse_expr.proofs.types.+types.Goals as goal
+use Rattle.parse_words.specs.Reads.{from, turns}
+use Rattle.parse_words.proofs.Loops.{item_refused}
+use Rattle.parse_words.proofs.Refusals.{refused_here}
+use Rattle.parse_words.proofs.TypeLevels.{type_levels}
+use Rattle.parse_words.proofs.types.+types.Goals as goal
 
 pub comma_fields-fields-init : goal.comma_fields-fields-init
 comma_fields-fields-init t c = record {

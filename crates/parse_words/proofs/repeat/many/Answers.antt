@@ -2,9 +2,9 @@ use Rattle.std.proofs.Common.{◌<◌, Ok, Err, sym, ◌∙◌, arith, rules}
 use Rattle.std.proofs.lemmas.Grind.{common_steps}
 use Rattle.std.proofs.lemmas.Result.{err_from_is_err_and}
 use Rattle.fronts.proofs.Places.{begin, go_on, go_end}
-use Rattle.parse_expr.specs.Marked.{marked}
-use Rattle.parse_expr.proofs.Loops.{item_refused}
-use Rattle.parse_expr.proofs.repeat.many.Goals as goal
+use Rattle.parse_words.specs.Marked.{marked}
+use Rattle.parse_words.proofs.Loops.{item_refused}
+use Rattle.parse_words.proofs.repeat.many.Goals as goal
 
 pub items-init : goal.items-init
 items-init g c = record { moved = omega arith; going = λ reader h. begin c.args.tokens.now.list (marked c.args.mark) reader c.args.found c.args.at }

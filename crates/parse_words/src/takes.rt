@@ -4,8 +4,8 @@ ghost use Rattle.sql_ast.specs.Marks as spec;
 ghost use Rattle.sql_ast.specs.Parts as parts;
 ghost use Rattle.sql_grammar.specs.Classes as classes;
 ghost use Rattle.sql_ast.specs.declared.token.Lexeme.TheVariants as lexeme;
-ghost use Rattle.parse_expr.specs.Marked.{marked};
-ghost use Rattle.parse_expr.specs.declared.marks.Mark.TheVariants as mark;
+ghost use Rattle.parse_words.specs.Marked.{marked};
+ghost use Rattle.parse_words.specs.declared.marks.Mark.TheVariants as mark;
 
 use crate::marks::Mark;
 use crate::telling::{

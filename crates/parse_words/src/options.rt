@@ -1,7 +1,7 @@
 //! Words that may stand, and counts.
 ghost use Rattle.std.specs.Prelude.{◌≡◌, ◌≤◌, IfOk};
 ghost use Rattle.sql_grammar.specs.Words as words;
-ghost use Rattle.parse_expr.specs.Reads.{from, Reads};
+ghost use Rattle.parse_words.specs.Reads.{from, Reads};
 
 use crate::cursor::{Read, expect, sees};
 use crate::marks::Mark;

@@ -1,7 +1,7 @@
 -- What a type begins with, in the words of the grammar.
 use Rattle.sql_grammar.specs.Classes as c
-use Rattle.parse_expr.specs.declared.type_starts.TypeStart.{TypeStart}
-use Rattle.parse_expr.specs.declared.type_starts.TypeStart.TheVariants as s
+use Rattle.parse_words.specs.declared.type_starts.TypeStart.{TypeStart}
+use Rattle.parse_words.specs.declared.type_starts.TypeStart.TheVariants as s
 
 abbrev pub type_class : TypeStart → c.TypeStart
 type_class s.Name = c.a_type_name

@@ -4,10 +4,10 @@ ghost use Rattle.fronts.specs.Readers.{comes, many, next};
 ghost use Rattle.sql_ast.specs.declared.words.Sign.TheVariants as sign;
 ghost use Rattle.sql_grammar.specs.Classes as classes;
 ghost use Rattle.sql_grammar.specs.Words as words;
-ghost use Rattle.parse_expr.specs.Marked.{marked};
-ghost use Rattle.parse_expr.specs.declared.marks.Mark.TheVariants as mark;
-ghost use Rattle.parse_expr.specs.Reads.{from, turns, Reads};
-ghost use Rattle.parse_expr.specs.TypeStarts.{type_class};
+ghost use Rattle.parse_words.specs.Marked.{marked};
+ghost use Rattle.parse_words.specs.declared.marks.Mark.TheVariants as mark;
+ghost use Rattle.parse_words.specs.Reads.{from, turns, Reads};
+ghost use Rattle.parse_words.specs.TypeStarts.{type_class};
 
 use crate::cursor::{Read, expect, refusal_at, sees, token_at};
 use crate::marks::Mark;

@@ -4,8 +4,8 @@ ghost use Rattle.fronts.specs.Readers.{comes, next, refuse, token};
 ghost use Rattle.sql_ast.specs.Marks as spec;
 ghost use Rattle.sql_grammar.specs.Exprs.{starred};
 ghost use Rattle.sql_grammar.specs.Ways.{place_of};
-ghost use Rattle.parse_expr.specs.Marked.{marked};
-ghost use Rattle.parse_expr.specs.Reads.{from, fault_place, Reads, Refuses, Stands, Takes};
+ghost use Rattle.parse_words.specs.Marked.{marked};
+ghost use Rattle.parse_words.specs.Reads.{from, fault_place, Reads, Refuses, Stands, Takes};
 
 use crate::marks::Mark;
 use crate::takes::takes;

@@ -3,9 +3,9 @@ ghost use Rattle.std.specs.Prelude.{◌≡◌, ◌<◌, ◌≤◌, IfOk};
 ghost use Rattle.fronts.specs.Readers.{many};
 ghost use Rattle.sql_ast.specs.declared.words.Sign.TheVariants as sign;
 ghost use Rattle.sql_grammar.specs.Words as words;
-ghost use Rattle.parse_expr.specs.Marked.{marked};
-ghost use Rattle.parse_expr.specs.declared.marks.Mark.TheVariants as mark;
-ghost use Rattle.parse_expr.specs.Reads.{from, turns, Reads};
+ghost use Rattle.parse_words.specs.Marked.{marked};
+ghost use Rattle.parse_words.specs.declared.marks.Mark.TheVariants as mark;
+ghost use Rattle.parse_words.specs.Reads.{from, turns, Reads};
 
 use crate::cursor::{Read, expect, expect_marked, sees};
 use crate::marks::Mark;

@@ -3,8 +3,8 @@ ghost use Rattle.std.specs.Prelude.{◌≡◌};
 ghost use Rattle.fronts.specs.Readers.{comes, next};
 ghost use Rattle.sql_grammar.specs.Classes as classes;
 ghost use Rattle.sql_grammar.specs.Words.{starts_type};
-ghost use Rattle.parse_expr.specs.Reads.{from};
-ghost use Rattle.parse_expr.specs.TypeStarts.{type_class};
+ghost use Rattle.parse_words.specs.Reads.{from};
+ghost use Rattle.parse_words.specs.TypeStarts.{type_class};
 
 use crate::cursor::token_at;
 use crate::takes::is_name;

@@ -10,8 +10,8 @@ use Rattle.sql_ast.specs.Parts.{from_alias, counts}
 use Rattle.sql_ast.specs.Trees.{function_of, prefix_of, product_of, sum_of, comparison_of, quantifier_of, test_of, form_of, cube_of}
 use Rattle.sql_grammar.specs.Classes.{set_word_of, starts_item, joins, comma_or_join}
 use Rattle.sql_grammar.specs.Exprs.{tells, starred, part_next, shift_next}
-use Rattle.parse_expr.specs.declared.marks.Mark.{Mark}
-use Rattle.parse_expr.specs.declared.marks.Mark.TheVariants as m
+use Rattle.parse_words.specs.declared.marks.Mark.{Mark}
+use Rattle.parse_words.specs.declared.marks.Mark.TheVariants as m
 
 abbrev pub marked : Mark → Token → Bool
 marked (m.Reserved x) = reserved x

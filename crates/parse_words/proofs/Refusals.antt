@@ -6,7 +6,7 @@ use Rattle.sql_ast.specs.declared.refusal.Refusal.{Refusal}
 use Rattle.sql_ast.specs.declared.refusal.Refusal.TheVariants.{Rule, OutOfMemory}
 use Rattle.sql_lexer.specs.declared.tokens.Tokens.{Tokens}
 use Rattle.sql_grammar.specs.Ways.{Parser}
-use Rattle.parse_expr.specs.Reads.{Refuses, Stuck}
+use Rattle.parse_words.specs.Reads.{Refuses, Stuck}
 
 pub passed : {A B : Type 0} (text : Tokens) (o : Outcome Token A) (f : A → Parser B) (e : Refusal) → Refuses text o e → Refuses text (and_then o f) e
 passed text o f (Rule rule place) h = record { rest = h.rest; is = ap (λ x. and_then x f) h.is; by_rule = h.by_rule; there = h.there }

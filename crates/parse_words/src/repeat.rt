@@ -2,8 +2,8 @@
 ghost use Rattle.std.specs.Prelude.{◌≡◌, ℕ, ◌<◌, ◌≤◌, IfOk, [], ◌∷◌};
 ghost use Rattle.fronts.specs.Readers.{many};
 ghost use Rattle.sql_grammar.specs.Ways.{Parser};
-ghost use Rattle.parse_expr.specs.Marked.{marked};
-ghost use Rattle.parse_expr.specs.Reads.{from, turns, Reads};
+ghost use Rattle.parse_words.specs.Marked.{marked};
+ghost use Rattle.parse_words.specs.Reads.{from, turns, Reads};
 
 use crate::cursor::{Read, sees};
 use crate::marks::Mark;

@@ -6,8 +6,8 @@ use Rattle.sql_ast.specs.declared.token.Token.{Token}
 use Rattle.sql_ast.specs.declared.refusal.Refusal.{Refusal}
 use Rattle.sql_lexer.specs.declared.tokens.Tokens.{Tokens}
 use Rattle.sql_grammar.specs.Ways.{Parser, Ended, until}
-use Rattle.parse_expr.specs.Reads.{from, Refuses}
-use Rattle.parse_expr.proofs.Refusals.{refused_as}
+use Rattle.parse_words.specs.Reads.{from, Refuses}
+use Rattle.parse_words.proofs.Refusals.{refused_as}
 
 -- an item of a repetition is refused
 pub item_refused : {A : Type 0} (text : Tokens) (fits : Token → Bool) (item : Parser A) (whole : Outcome Token (List A)) (found : List A) (at : ℕ) → Going text.list fits item whole found at

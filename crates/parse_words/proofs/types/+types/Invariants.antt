@@ -3,8 +3,8 @@ use Rattle.fronts.specs.Readers.{many, Going}
 use Rattle.sql_ast.specs.declared.words.Sign.TheVariants as sign
 use Rattle.sql_ast.specs.Marks as spec
 use Rattle.sql_grammar.specs.Words as words
-use Rattle.parse_expr.specs.Reads.{from, turns}
-use Rattle.parse_expr.proofs.types.+types.Given as goal
+use Rattle.parse_words.specs.Reads.{from, turns}
+use Rattle.parse_words.proofs.types.+types.Given as goal
 
 abbrev pub decreases-type_at : goal.decreases-type_at
 decreases-type_at l = 8 * l.levels
