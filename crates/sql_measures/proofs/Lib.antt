@@ -1,0 +1,3 @@
+mod Caps
+pub mod DepthLaws
+pub mod WeightLaws

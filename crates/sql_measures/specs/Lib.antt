@@ -1,0 +1,4 @@
+pub mod PartDepths
+pub mod PartWeights
+pub mod TreeDepths
+pub mod TreeWeights
