@@ -1,0 +1,10 @@
+pub mod Lexemes
+pub mod Levels
+pub mod Reading
+pub mod Complete
+pub mod Sound
+pub mod Loops
+pub mod Texts
+pub mod GoodTokens
+pub mod FitLaws
+pub mod ValueLaws

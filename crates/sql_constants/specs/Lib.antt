@@ -1,0 +1,4 @@
+pub mod Constants
+pub mod Readers
+pub mod Reads
+pub mod Values
