@@ -3,3 +3,6 @@ mod CutLaws
 mod JoinLaws
 mod NoteLaws
 mod SortLaws
+mod CountLaws
+mod PartnerLaws
+mod SetLaws

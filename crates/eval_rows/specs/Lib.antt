@@ -1,2 +1,4 @@
 pub mod Met
 pub mod Joins
+pub mod Counts
+pub mod Sets

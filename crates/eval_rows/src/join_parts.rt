@@ -4,7 +4,7 @@ ghost use Rattle.sql_types.specs.declared.value.Value.TheVariants.{Null};
 ghost use Rattle.sql_types.specs.Joined as joined;
 ghost use Rattle.eval_rows.specs.Met.{either_each, unmet, from_unmet};
 
-use sql_types::{Items, JoinKind, Value, Values, copy_value};
+use sql_types::{Columns, Items, JoinKind, Value, Values, copy_columns, copy_value};
 use std::alloc::{AllocError, Global};
 
 /// A left row with each right row that it is kept with.
@@ -127,6 +127,19 @@ pub(crate) fn note_met(mut had: Items<bool>, kept: &[bool]) -> Items<bool>
         }
     }
     had
+}
+
+/// The columns of the left and then those of the right.
+pub(crate) fn both_columns(
+    alloc: Global,
+    left: &Columns,
+    right: &Columns,
+) -> Result<Columns, AllocError>
+    ensures { IfOk result (λ columns. columns ≡ left.now ++ right.now) }
+{
+    let mut columns = copy_columns(alloc, left)?;
+    columns.append(copy_columns(alloc, right)?)?;
+    Ok(columns)
 }
 
 /// The values of one row and then those of another.

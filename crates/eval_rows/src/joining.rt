@@ -4,8 +4,10 @@ ghost use Rattle.std.specs.List.{All};
 ghost use Rattle.sql_types.specs.Outcome.{Answers};
 ghost use Rattle.eval_rows.specs.Joins.{TakesPair, TakesPairs, TestGives, Answered, Joins, JoinsRows};
 
-use crate::join_parts::{met_rows, none_met, note_met, padded_right, rows_from_right};
-use sql_types::{CallFault, Columns, Items, JoinKind, Rows, Value, Values, copy_columns};
+use crate::join_parts::{
+    both_columns, met_rows, none_met, note_met, padded_right, rows_from_right,
+};
+use sql_types::{CallFault, Items, JoinKind, Rows, Value, Values};
 use std::alloc::{AllocError, Global};
 
 /// The join of two tables, by what a test answers for each pair of a left and a right row: it keeps the pairs for which
@@ -36,14 +38,6 @@ pub fn join_rows<P: Fn(&[Value], &[Value]) -> Result<bool, CallFault>>(
         Ok(rows) => Ok(Rows { columns, rows }),
         Err(fault) => Err(fault),
     }
-}
-
-fn both_columns(alloc: Global, left: &Columns, right: &Columns) -> Result<Columns, AllocError>
-    ensures { IfOk result (λ columns. columns ≡ left.now ++ right.now) }
-{
-    let mut columns = copy_columns(alloc, left)?;
-    columns.append(copy_columns(alloc, right)?)?;
-    Ok(columns)
 }
 
 /// The rows of the join.
