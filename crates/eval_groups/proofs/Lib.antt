@@ -1,0 +1,2 @@
+mod PartedLaws
+mod RunLaws

@@ -1,0 +1,9 @@
+//! Groups of rows.
+#![tactic(auto)]
+
+pub mod grouping;
+pub mod groups;
+mod runs;
+
+pub use grouping::group_rows;
+pub use groups::{Group, Groups};
