@@ -1,88 +1,95 @@
 -- What is read fits its column.
-use Rattle.std.proofs.Common.{◌≡◌, ℕ, Bool, true, false, List, [], ◌∷◌, Option, Some, None, if◌then◌else◌, sym, ap, ◌∙◌, refl}
-use Rattle.std.specs.Prelude.{Result, Ok, Err, option_map, option_and_then, ℤ, pos, neg_ℤ}
+use Rattle.std.proofs.Common.{◌≡◌, ℕ, suc, ◌<◌, ℤ, Bool, true, false, List, [], ◌∷◌, Option, Some, None, if◌then◌else◌, refl, sym, ap, ◌∙◌, subst, lt-ltb}
+use Rattle.std.specs.Prelude.{Result, Ok, Err, option_map, option_and_then, nat_lt, slice_index, IfSome}
+use Rattle.std.specs.List.{list_all}
 use Rattle.std.specs.Str.{is_utf8}
-use Rattle.sql_types.specs.Fits.{fits, fits_layer, fits_row, within}
-use Rattle.sql_types.proofs.Opens.{fits-opens}
+use Rattle.hex.specs.Hex.{decode_of}
+use Rattle.hex.specs.declared.error.FromHexError.{FromHexError}
+use Rattle.hex.proofs.HexLemmas.{decode_of-ok}
+use Rattle.sql_types.specs.Calendar.{read_date}
+use Rattle.sql_types.specs.Fits.{fits, fits_row, is_day}
+use Rattle.sql_types.proofs.DateTextLaws.{read_date-fits}
+use Rattle.sql_types.proofs.ValueOpens.{fits_by}
 use Rattle.sql_types.specs.declared.sql_type.Named.{Named}
-use Rattle.sql_types.specs.declared.sql_type.SqlType.{SqlType, out-SqlType, map-SqlType}
+use Rattle.sql_types.specs.declared.sql_type.SqlType.{SqlType, out-SqlType}
 use Rattle.sql_types.specs.declared.sql_type.SqlType.TheOpen as t
-use Rattle.sql_types.specs.declared.value.Value.{Value, out-Value, out-roll-Value}
+use Rattle.sql_types.specs.declared.value.Value.{Value}
 use Rattle.sql_types.specs.declared.value.Value.TheOpen as o
 use Rattle.sql_types.specs.declared.value.Value.TheVariants as v
-use Rattle.sql_coerce.specs.Numerals.{int64_of, integer, only_int64}
-use Rattle.csv_tables.specs.Cells.{cell_of, typed_cell, integer_value, text_bytes, is_null_mark}
+use Rattle.sql_coerce.specs.Casts.{integer_value, or_cast_fault, truth_of_text}
+use Rattle.sql_coerce.specs.Numerals.{integer}
+use Rattle.sql_constants.proofs.FitLaws.{integer-fits, null-fits}
+use Rattle.sql_constants.proofs.ValueLaws.{value_fits}
+use Rattle.csv_tables.specs.Cells.{cell_of, typed_cell, some_cell, unless_empty, if_any, text_bytes, is_null_mark}
 use Rattle.csv_tables.specs.Tables.{row_of, before_row}
-
--- one level of a type, by what fits its parts
-abbrev Layer : Type 0
-Layer = t.SqlType-F (Value → Bool)
-
-out-Null : out-Value v.Null ≡ o.Null
-out-Null = ap out-Value (sym v.rolls-Null) ∙ out-roll-Value o.Null
-
-out-Int : (n : ℤ) → out-Value (v.Int n) ≡ o.Int n
-out-Int n = ap out-Value (sym (v.rolls-Int n)) ∙ out-roll-Value (o.Int n)
-
-out-Text : (bytes : List ℕ) → out-Value (v.Text bytes) ≡ o.Text bytes
-out-Text bytes = ap out-Value (sym (v.rolls-Text bytes)) ∙ out-roll-Value (o.Text bytes)
+use Rattle.csv_tables.proofs.CellLaws.{any_but_fault}
 
 -- a value that stands for NULL fits each type
-null-fits : (layer : Layer) (value : Value) → Some v.Null ≡ Some value → fits_layer layer (out-Value value) ≡ true
-null-fits layer value is =
-    let same : v.Null ≡ value = cc in
-    rw (← same, out-Null) refl
-
--- a number within INT64 fits INT64
-only-fits : (b : Bool) (n m : ℤ) → (if b then Some n else None) ≡ Some m → within (neg_ℤ (pos 9223372036854775808)) (pos 9223372036854775807) n ≡ b
-    → within (neg_ℤ (pos 9223372036854775808)) (pos 9223372036854775807) m ≡ true
-only-fits true n m is test = let same : n ≡ m = cc in rw (← same) test
-only-fits false n m is test = cc
-
-then-fits : (o : Option ℤ) (m : ℤ) → option_and_then only_int64 o ≡ Some m → within (neg_ℤ (pos 9223372036854775808)) (pos 9223372036854775807) m ≡ true
-then-fits None m is = cc
-then-fits (Some n) m is = only-fits (within (neg_ℤ (pos 9223372036854775808)) (pos 9223372036854775807) n) n m is refl
-
-int-some : (o : Option ℤ) (value : Value) → option_map v.Int o ≡ Some value → ((m : ℤ) → o ≡ Some m → within (neg_ℤ (pos 9223372036854775808)) (pos 9223372036854775807) m ≡ true)
-    → fits_layer t.Int64 (out-Value value) ≡ true
-int-some None value is fit = cc
-int-some (Some m) value is fit =
-    let same : v.Int m ≡ value = cc in
-    rw (← same, out-Int m) (fit m refl)
-
-int-fits : (cell : List ℕ) (value : Value) → integer_value cell ≡ Some value → fits_layer t.Int64 (out-Value value) ≡ true
-int-fits [] value is = null-fits t.Int64 value is
-int-fits (c ∷ cs) value is = int-some (int64_of (c ∷ cs)) value is (λ m at. then-fits (integer (c ∷ cs)) m at)
+marked-null : (type : SqlType) (value : Value) → Some v.Null ≡ Some value → fits type value ≡ true
+marked-null type value is = let same : v.Null ≡ value = cc in subst (λ x. fits type x ≡ true) same (null-fits type)
 
 -- a text is UTF-8
-text-some : (b : Bool) (bytes : List ℕ) (value : Value) → is_utf8 bytes ≡ b → option_map v.Text (if b then Some bytes else None) ≡ Some value
-    → fits_layer t.Text (out-Value value) ≡ true
-text-some false bytes value test is = cc
-text-some true bytes value test is =
+text-some : (type : SqlType) → out-SqlType type ≡ t.Text → (b : Bool) (bytes : List ℕ) (value : Value) → is_utf8 bytes ≡ b → option_map v.Text (if b then Some bytes else None) ≡ Some value
+    → fits type value ≡ true
+text-some type form false bytes value test is = cc
+text-some type form true bytes value test is =
     let same : v.Text bytes ≡ value = cc in
-    rw (← same, out-Text bytes) test
+    subst (λ x. fits type x ≡ true) same (fits_by type (v.Text bytes) t.Text (o.Text bytes) form (v.outs-Text bytes) ∙ test)
 
-typed-fits : (layer : t.SqlType-F SqlType) (cell : List ℕ) (value : Value) → typed_cell layer cell ≡ Some value
-    → fits_layer (map-SqlType SqlType (Value → Bool) fits layer) (out-Value value) ≡ true
-typed-fits t.Bool cell value is = cc
-typed-fits t.Int32 cell value is = cc
-typed-fits t.Int64 cell value is = int-fits cell value is
-typed-fits t.Uint32 cell value is = cc
-typed-fits t.Uint64 cell value is = cc
-typed-fits t.Text cell value is = text-some (is_utf8 (text_bytes cell)) (text_bytes cell) value refl is
-typed-fits t.Bytes cell value is = cc
-typed-fits t.Date cell value is = cc
-typed-fits (t.Array element) cell value is = cc
-typed-fits (t.Struct fields) cell value is = cc
+-- two digits are a byte
+all_below : (bytes : List ℕ) → ((k : ℕ) → slice_index bytes k < 256) → list_all (λ b. nat_lt b 256) bytes ≡ true
+all_below [] below = refl
+all_below (b ∷ bytes) below = rw (lt-ltb b 256 (below 0)) (all_below bytes (λ k. below (suc k)))
 
-marked-fits : (b : Bool) (layer : t.SqlType-F SqlType) (cell : List ℕ) (value : Value) → (if b then Some v.Null else typed_cell layer cell) ≡ Some value
-    → fits_layer (map-SqlType SqlType (Value → Bool) fits layer) (out-Value value) ≡ true
-marked-fits true layer cell value is = null-fits (map-SqlType SqlType (Value → Bool) fits layer) value is
-marked-fits false layer cell value is = typed-fits layer cell value is
+digits-some : (type : SqlType) → out-SqlType type ≡ t.Bytes → (cell : List ℕ) (r : Result (List ℕ) FromHexError) (value : Value) → decode_of cell ≡ r → option_map v.Bytes (if_any r) ≡ Some value → fits type value ≡ true
+digits-some type form cell (Err e) value read is = cc
+digits-some type form cell (Ok bytes) value read is =
+    let same : v.Bytes bytes ≡ value = cc in
+    subst (λ x. fits type x ≡ true) same (fits_by type (v.Bytes bytes) t.Bytes (o.Bytes bytes) form (v.outs-Bytes bytes) ∙ all_below bytes (decode_of-ok cell bytes read).3)
+
+bool-some : (type : SqlType) → out-SqlType type ≡ t.Bool → (b : Option Bool) (value : Value) → option_map v.Bool b ≡ Some value → fits type value ≡ true
+bool-some type form None value is = cc
+bool-some type form (Some b) value is =
+    let same : v.Bool b ≡ value = cc in
+    subst (λ x. fits type x ≡ true) same (fits_by type (v.Bool b) t.Bool (o.Bool b) form (v.outs-Bool b))
+
+day-some : (type : SqlType) → out-SqlType type ≡ t.Date → (d : Option ℤ) (value : Value) → IfSome d (λ k. is_day k ≡ true) → option_map v.Date d ≡ Some value → fits type value ≡ true
+day-some type form None value day is = cc
+day-some type form (Some d) value day is =
+    let same : v.Date d ≡ value = cc in
+    subst (λ x. fits type x ≡ true) same (fits_by type (v.Date d) t.Date (o.Date d) form (v.outs-Date d) ∙ day)
+
+number-some : (type : SqlType) (n : Option ℤ) (value : Value) → option_and_then (integer_value (out-SqlType type)) n ≡ Some value → fits type value ≡ true
+number-some type None value is = cc
+number-some type (Some n) value is = integer-fits type n value is
+
+number-at : (type : SqlType) (form : t.SqlType-F SqlType) → out-SqlType type ≡ form → (cell : List ℕ) (value : Value) → if_any (or_cast_fault (option_and_then (integer_value form) (integer cell))) ≡ Some value → fits type value ≡ true
+number-at type form e cell value is =
+    number-some type (integer cell) value (ap (λ f. option_and_then (integer_value f) (integer cell)) e ∙ sym (any_but_fault (option_and_then (integer_value form) (integer cell))) ∙ is)
+
+unless-fits : (type : SqlType) (cell : List ℕ) (full : Option Value) (value : Value) → unless_empty cell full ≡ Some value → (full ≡ Some value → fits type value ≡ true) → fits type value ≡ true
+unless-fits type [] full value is fit = marked-null type value is
+unless-fits type (c ∷ cs) full value is fit = fit is
+
+typed-fits : (type : SqlType) (form : t.SqlType-F SqlType) → out-SqlType type ≡ form → (cell : List ℕ) (value : Value) → typed_cell type form cell ≡ Some value → fits type value ≡ true
+typed-fits type t.Text e cell value is = text-some type e (is_utf8 (text_bytes cell)) (text_bytes cell) value refl is
+typed-fits type t.Bytes e cell value is = digits-some type e cell (decode_of cell) value refl is
+typed-fits type t.Bool e cell value is = unless-fits type cell (some_cell type t.Bool cell) value is (λ is. bool-some type e (truth_of_text cell) value (sym (any_but_fault (option_map v.Bool (truth_of_text cell))) ∙ is))
+typed-fits type t.Int32 e cell value is = unless-fits type cell (some_cell type t.Int32 cell) value is (λ is. number-at type t.Int32 e cell value is)
+typed-fits type t.Int64 e cell value is = unless-fits type cell (some_cell type t.Int64 cell) value is (λ is. number-at type t.Int64 e cell value is)
+typed-fits type t.Uint32 e cell value is = unless-fits type cell (some_cell type t.Uint32 cell) value is (λ is. number-at type t.Uint32 e cell value is)
+typed-fits type t.Uint64 e cell value is = unless-fits type cell (some_cell type t.Uint64 cell) value is (λ is. number-at type t.Uint64 e cell value is)
+typed-fits type t.Date e cell value is = unless-fits type cell (some_cell type t.Date cell) value is (λ is. day-some type e (read_date cell) value (read_date-fits cell) (sym (any_but_fault (option_map v.Date (read_date cell))) ∙ is))
+typed-fits type (t.Array element) e cell value is = unless-fits type cell (some_cell type (t.Array element) cell) value is (λ is. value_fits type cell value is)
+typed-fits type (t.Struct fields) e cell value is = unless-fits type cell (some_cell type (t.Struct fields) cell) value is (λ is. value_fits type cell value is)
+
+unmarked-fits : (b : Bool) (type : SqlType) (cell : List ℕ) (value : Value) → (if b then Some v.Null else typed_cell type (out-SqlType type) cell) ≡ Some value → fits type value ≡ true
+unmarked-fits true type cell value is = marked-null type value is
+unmarked-fits false type cell value is = typed-fits type (out-SqlType type) refl cell value is
 
 -- the value of a cell fits the type
 pub cell_of-fits : (ty : SqlType) (cell : List ℕ) (value : Value) → cell_of ty cell ≡ Some value → fits ty value ≡ true
-cell_of-fits ty cell value is = fits-opens ty value ∙ marked-fits (is_null_mark cell) (out-SqlType ty) cell value is
+cell_of-fits ty cell value is = unmarked-fits (is_null_mark cell) ty cell value is
 
 row-before : (column : Named SqlType) (columns : List (Named SqlType)) (cell : Option Value) (rest : Result (List Value) ℕ) (row : List Value)
     → before_row cell rest ≡ Ok row → ((value : Value) → cell ≡ Some value → fits column.ty value ≡ true)

@@ -1,7 +1,8 @@
 //! Table files and their rows.
 use crate::{TableRefusal, read_table};
+use sql_ast::{dates_fit, literal_text};
 use sql_catalog::TableDef;
-use sql_types::{Columns, Items, Named, Rows, SqlType, Text, Value, Values};
+use sql_types::{Boxed, Bytes, Columns, Items, Named, Rows, SqlType, Text, Value, Values};
 use std::alloc::{AllocError, Global};
 use std::test::Fail;
 
@@ -68,6 +69,167 @@ const FILES: [(&[u8], &str); 38] = [
     (b"a,bb\n", "fault 0 1"),
     (b"\n\r\n", "fault 0 0"),
 ];
+
+/// Types by name.
+#[derive(Clone, Copy, Debug)]
+enum Type {
+    Bool,
+    Int32,
+    Uint32,
+    Uint64,
+    Text,
+    Bytes,
+    Date,
+    /// ARRAY<STRING>
+    Texts,
+    /// STRUCT<INT64, DATE>
+    Pair,
+}
+
+/// The type of the one column of a file, its cell in record 1, and the literal of the cell's value, or the fault.
+const CELLS: [(Type, &[u8], &str); 62] = [
+    // NULL
+    (Type::Bool, b"\\N", "NULL"),
+    (Type::Bytes, b"\\N", "NULL"),
+    (Type::Date, b"\"\\N\"", "NULL"),
+    (Type::Texts, b"\\N", "NULL"),
+    (Type::Pair, b"\\N", "NULL"),
+    // empty cells
+    (Type::Text, b"\"\"", "\"\""),
+    (Type::Bytes, b"\"\"", "b\"\""),
+    (Type::Bool, b"\"\"", "NULL"),
+    (Type::Int32, b"\"\"", "NULL"),
+    (Type::Uint64, b"\"\"", "NULL"),
+    (Type::Date, b"\"\"", "NULL"),
+    (Type::Texts, b"\"\"", "NULL"),
+    (Type::Pair, b"\"\"", "NULL"),
+    // backslashes and N count for STRING alone
+    (Type::Text, b"\\\\N", "\"\\\\N\""),
+    (Type::Bytes, b"\\\\N", "fault 1 0"),
+    (Type::Bool, b"\\\\N", "fault 1 0"),
+    (Type::Texts, b"\\\\N", "fault 1 0"),
+    // BOOL
+    (Type::Bool, b"true", "TRUE"),
+    (Type::Bool, b"FaLsE", "FALSE"),
+    (Type::Bool, b" true", "fault 1 0"),
+    (Type::Bool, b"1", "fault 1 0"),
+    // integers
+    (Type::Int32, b"-0x80000000", "-2147483648"),
+    (Type::Int32, b"2147483647", "2147483647"),
+    (Type::Int32, b"2147483648", "fault 1 0"),
+    (Type::Int32, b"-2147483649", "fault 1 0"),
+    (Type::Uint32, b"+4294967295", "4294967295"),
+    (Type::Uint32, b"4294967296", "fault 1 0"),
+    (Type::Uint32, b"-1", "fault 1 0"),
+    (Type::Uint64, b"0xffffffffffffffff", "18446744073709551615"),
+    (Type::Uint64, b"18446744073709551616", "fault 1 0"),
+    (Type::Uint64, b"-0", "0"),
+    (Type::Uint64, b"-1", "fault 1 0"),
+    (Type::Uint64, b"1.0", "fault 1 0"),
+    // BYTES
+    (Type::Bytes, b"00fF61", "b\"\\x00\\xffa\""),
+    (Type::Bytes, b"7F", "b\"\\x7f\""),
+    (Type::Bytes, b"7", "fault 1 0"),
+    (Type::Bytes, b"7f8", "fault 1 0"),
+    (Type::Bytes, b"7g", "fault 1 0"),
+    (Type::Bytes, b"0x7f", "fault 1 0"),
+    (Type::Bytes, b"7f ", "fault 1 0"),
+    // DATE
+    (Type::Date, b"2024-01-31", "DATE \"2024-01-31\""),
+    (Type::Date, b"2024-2-9", "DATE \"2024-02-09\""),
+    (Type::Date, b"2023-02-29", "fault 1 0"),
+    (Type::Date, b"'2024-01-31'", "fault 1 0"),
+    (Type::Date, b"DATE '2024-01-31'", "fault 1 0"),
+    (Type::Date, b"19753", "fault 1 0"),
+    // ARRAY
+    (Type::Texts, b"[]", "[]"),
+    (Type::Texts, b"\"['a', NULL]\"", "[\"a\", NULL]"),
+    (Type::Texts, b"\"[\"\"a\"\"]\"", "[\"a\"]"),
+    (Type::Texts, b"NULL", "NULL"),
+    (Type::Texts, b"['a'] -- one", "[\"a\"]"),
+    (Type::Texts, b"\"['a',]\"", "fault 1 0"),
+    (Type::Texts, b"[1]", "fault 1 0"),
+    (Type::Texts, b"'a'", "fault 1 0"),
+    (Type::Texts, b"ARRAY['a']", "fault 1 0"),
+    (Type::Texts, b"['\xff']", "fault 1 0"),
+    // STRUCT
+    (
+        Type::Pair,
+        b"\"STRUCT(1, '2024-01-31')\"",
+        "STRUCT(1, DATE \"2024-01-31\")",
+    ),
+    (
+        Type::Pair,
+        b"\"struct(-1,DATE '2024-01-31')\"",
+        "STRUCT(-1, DATE \"2024-01-31\")",
+    ),
+    (Type::Pair, b"STRUCT(1)", "fault 1 0"),
+    (Type::Pair, b"\"(1, '2024-01-31')\"", "fault 1 0"),
+    (Type::Pair, b"\"STRUCT(1, '2024')\"", "fault 1 0"),
+    (Type::Pair, b"\"STRUCT(1, NULL);\"", "fault 1 0"),
+];
+
+#[test]
+fn reads_cells_of_each_type(rt: HostRuntime) -> Result<(), Fail> {
+    let alloc = rt.alloc();
+    for (ty, cell, want) in CELLS {
+        let mut columns = Items::new(alloc);
+        columns.push(column(alloc, "c", named(alloc, ty)?)?)?;
+        let table = table(alloc, columns)?;
+        let mut file = Vec::from_slice(alloc, b"c\n")?;
+        file.extend_from_slice(cell)?;
+        let literal = first_literal(alloc, &table, file.as_slice())?;
+        assert_eq!(rt; literal.as_slice(), want.as_bytes(), "at {cell:?}");
+    }
+    Ok(())
+}
+
+/// The literal of the first value of the file, or the record and field at fault.
+fn first_literal(alloc: Global, table: &TableDef, file: &[u8]) -> Result<Bytes, AllocError> {
+    match read_table(alloc, table, file) {
+        Ok(rows) => match rows.rows.as_slice() {
+            [row, ..] => first_of(alloc, row),
+            [] => Items::from_slice(alloc, b"no row"),
+        },
+        Err(TableRefusal::Fault { row, field }) => {
+            let text = format!(in alloc; "fault {row} {field}")?;
+            Items::from_slice(alloc, text.as_bytes())
+        }
+        Err(TableRefusal::OutOfMemory) => Err(AllocError),
+    }
+}
+
+fn first_of(alloc: Global, row: &Values) -> Result<Bytes, AllocError> {
+    match row.as_slice() {
+        [value, ..] if dates_fit(value) => literal_text(alloc, value),
+        _ => Items::from_slice(alloc, b"no value"),
+    }
+}
+
+fn named(alloc: Global, ty: Type) -> Result<SqlType, AllocError> {
+    match ty {
+        Type::Bool => Ok(SqlType::Bool),
+        Type::Int32 => Ok(SqlType::Int32),
+        Type::Uint32 => Ok(SqlType::Uint32),
+        Type::Uint64 => Ok(SqlType::Uint64),
+        Type::Text => Ok(SqlType::Text),
+        Type::Bytes => Ok(SqlType::Bytes),
+        Type::Date => Ok(SqlType::Date),
+        Type::Texts => Ok(SqlType::Array(Boxed::new(alloc, SqlType::Text)?)),
+        Type::Pair => {
+            let mut fields = Items::new(alloc);
+            fields.push(Named {
+                name: None,
+                ty: SqlType::Int64,
+            })?;
+            fields.push(Named {
+                name: None,
+                ty: SqlType::Date,
+            })?;
+            Ok(SqlType::Struct(fields))
+        }
+    }
+}
 
 #[test]
 fn reads_files(rt: HostRuntime) -> Result<(), Fail> {
