@@ -87,7 +87,7 @@ enum Type {
 }
 
 /// The type of the one column of a file, its cell in record 1, and the literal of the cell's value, or the fault.
-const CELLS: [(Type, &[u8], &str); 62] = [
+const NULLS_AND_EMPTY: [(Type, &[u8], &str); 17] = [
     // NULL
     (Type::Bool, b"\\N", "NULL"),
     (Type::Bytes, b"\\N", "NULL"),
@@ -108,6 +108,10 @@ const CELLS: [(Type, &[u8], &str); 62] = [
     (Type::Bytes, b"\\\\N", "fault 1 0"),
     (Type::Bool, b"\\\\N", "fault 1 0"),
     (Type::Texts, b"\\\\N", "fault 1 0"),
+];
+
+/// The type of the one column of a file, its cell in record 1, and the literal of the cell's value, or the fault.
+const TRUTHS_AND_NUMBERS: [(Type, &[u8], &str); 16] = [
     // BOOL
     (Type::Bool, b"true", "TRUE"),
     (Type::Bool, b"FaLsE", "FALSE"),
@@ -126,6 +130,10 @@ const CELLS: [(Type, &[u8], &str); 62] = [
     (Type::Uint64, b"-0", "0"),
     (Type::Uint64, b"-1", "fault 1 0"),
     (Type::Uint64, b"1.0", "fault 1 0"),
+];
+
+/// The type of the one column of a file, its cell in record 1, and the literal of the cell's value, or the fault.
+const BYTES_AND_DATES: [(Type, &[u8], &str); 13] = [
     // BYTES
     (Type::Bytes, b"00fF61", "b\"\\x00\\xffa\""),
     (Type::Bytes, b"7F", "b\"\\x7f\""),
@@ -141,6 +149,10 @@ const CELLS: [(Type, &[u8], &str); 62] = [
     (Type::Date, b"'2024-01-31'", "fault 1 0"),
     (Type::Date, b"DATE '2024-01-31'", "fault 1 0"),
     (Type::Date, b"19753", "fault 1 0"),
+];
+
+/// The type of the one column of a file, its cell in record 1, and the literal of the cell's value, or the fault.
+const ARRAYS_AND_STRUCTS: [(Type, &[u8], &str); 16] = [
     // ARRAY
     (Type::Texts, b"[]", "[]"),
     (Type::Texts, b"\"['a', NULL]\"", "[\"a\", NULL]"),
@@ -170,18 +182,53 @@ const CELLS: [(Type, &[u8], &str); 62] = [
 ];
 
 #[test]
-fn reads_cells_of_each_type(rt: HostRuntime) -> Result<(), Fail> {
+fn reads_nulls_and_empty_cells(rt: HostRuntime) -> Result<(), Fail> {
     let alloc = rt.alloc();
-    for (ty, cell, want) in CELLS {
-        let mut columns = Items::new(alloc);
-        columns.push(column(alloc, "c", named(alloc, ty)?)?)?;
-        let table = table(alloc, columns)?;
-        let mut file = Vec::from_slice(alloc, b"c\n")?;
-        file.extend_from_slice(cell)?;
-        let literal = first_literal(alloc, &table, file.as_slice())?;
+    for (ty, cell, want) in NULLS_AND_EMPTY {
+        let literal = cell_literal(alloc, ty, cell)?;
         assert_eq!(rt; literal.as_slice(), want.as_bytes(), "at {cell:?}");
     }
     Ok(())
+}
+
+#[test]
+fn reads_truths_and_numbers(rt: HostRuntime) -> Result<(), Fail> {
+    let alloc = rt.alloc();
+    for (ty, cell, want) in TRUTHS_AND_NUMBERS {
+        let literal = cell_literal(alloc, ty, cell)?;
+        assert_eq!(rt; literal.as_slice(), want.as_bytes(), "at {cell:?}");
+    }
+    Ok(())
+}
+
+#[test]
+fn reads_bytes_and_dates(rt: HostRuntime) -> Result<(), Fail> {
+    let alloc = rt.alloc();
+    for (ty, cell, want) in BYTES_AND_DATES {
+        let literal = cell_literal(alloc, ty, cell)?;
+        assert_eq!(rt; literal.as_slice(), want.as_bytes(), "at {cell:?}");
+    }
+    Ok(())
+}
+
+#[test]
+fn reads_arrays_and_structs(rt: HostRuntime) -> Result<(), Fail> {
+    let alloc = rt.alloc();
+    for (ty, cell, want) in ARRAYS_AND_STRUCTS {
+        let literal = cell_literal(alloc, ty, cell)?;
+        assert_eq!(rt; literal.as_slice(), want.as_bytes(), "at {cell:?}");
+    }
+    Ok(())
+}
+
+/// The literal of the value of a cell of a type, in a file of one column.
+fn cell_literal(alloc: Global, ty: Type, cell: &[u8]) -> Result<Bytes, AllocError> {
+    let mut columns = Items::new(alloc);
+    columns.push(column(alloc, "c", named(alloc, ty)?)?)?;
+    let table = table(alloc, columns)?;
+    let mut file = Vec::from_slice(alloc, b"c\n")?;
+    file.extend_from_slice(cell)?;
+    first_literal(alloc, &table, file.as_slice())
 }
 
 /// The literal of the first value of the file, or the record and field at fault.

@@ -27,7 +27,7 @@ enum Type {
 }
 
 /// A text, a type, and the literal of the constant of this type that the text is, or nothing.
-const CONSTANTS: [(&[u8], Type, Option<&str>); 99] = [
+const PLAIN: [(&[u8], Type, Option<&str>); 24] = [
     // NULL
     (b"NULL", Type::Int64, Some("NULL")),
     (b"null", Type::Pair, Some("NULL")),
@@ -40,6 +40,26 @@ const CONSTANTS: [(&[u8], Type, Option<&str>); 99] = [
     (b"1", Type::Bool, None),
     (b"'true'", Type::Bool, None),
     (b"NOT TRUE", Type::Bool, None),
+    // STRING
+    (b"'a'", Type::Text, Some("\"a\"")),
+    (b"\"\"", Type::Text, Some("\"\"")),
+    (b"'''a\r\nb'''", Type::Text, Some("\"a\\nb\"")),
+    (b"r'\\n'", Type::Text, Some("\"\\\\n\"")),
+    (b"'h\xc3\xa9'", Type::Text, Some("\"hé\"")),
+    (b"'a' 'b'", Type::Text, None),
+    (b"b'a'", Type::Text, None),
+    (b"a", Type::Text, None),
+    (b"5", Type::Text, None),
+    (b"'a", Type::Text, None),
+    (b"'\xff'", Type::Text, None),
+    // BYTES
+    (b"b'a\\xff'", Type::Bytes, Some("b\"a\\xff\"")),
+    (b"rb'\\n'", Type::Bytes, Some("b\"\\\\n\"")),
+    (b"'a'", Type::Bytes, None),
+];
+
+/// A text, a type, and the literal of the constant of this type that the text is, or nothing.
+const NUMBERS: [(&[u8], Type, Option<&str>); 32] = [
     // integers
     (b"5", Type::Int64, Some("5")),
     (b"-5", Type::Int64, Some("-5")),
@@ -85,22 +105,10 @@ const CONSTANTS: [(&[u8], Type, Option<&str>); 99] = [
     (b"-0", Type::Uint64, Some("0")),
     (b"-0", Type::Int32, Some("0")),
     (b"-1", Type::Uint64, None),
-    // STRING
-    (b"'a'", Type::Text, Some("\"a\"")),
-    (b"\"\"", Type::Text, Some("\"\"")),
-    (b"'''a\r\nb'''", Type::Text, Some("\"a\\nb\"")),
-    (b"r'\\n'", Type::Text, Some("\"\\\\n\"")),
-    (b"'h\xc3\xa9'", Type::Text, Some("\"hé\"")),
-    (b"'a' 'b'", Type::Text, None),
-    (b"b'a'", Type::Text, None),
-    (b"a", Type::Text, None),
-    (b"5", Type::Text, None),
-    (b"'a", Type::Text, None),
-    (b"'\xff'", Type::Text, None),
-    // BYTES
-    (b"b'a\\xff'", Type::Bytes, Some("b\"a\\xff\"")),
-    (b"rb'\\n'", Type::Bytes, Some("b\"\\\\n\"")),
-    (b"'a'", Type::Bytes, None),
+];
+
+/// A text, a type, and the literal of the constant of this type that the text is, or nothing.
+const DATES_AND_ARRAYS: [(&[u8], Type, Option<&str>); 26] = [
     // DATE
     (b"'2024-01-31'", Type::Date, Some("DATE \"2024-01-31\"")),
     (
@@ -137,6 +145,10 @@ const CONSTANTS: [(&[u8], Type, Option<&str>); 99] = [
     (b"ARRAY[1]", Type::Numbers, None),
     (b"ARRAY<INT64>[1]", Type::Numbers, None),
     (b"[1]", Type::Int64, None),
+];
+
+/// A text, a type, and the literal of the constant of this type that the text is, or nothing.
+const STRUCTS: [(&[u8], Type, Option<&str>); 17] = [
     // STRUCT
     (b"STRUCT(1, 'a')", Type::Pair, Some("STRUCT(1, \"a\")")),
     (
@@ -167,18 +179,65 @@ const CONSTANTS: [(&[u8], Type, Option<&str>); 99] = [
 ];
 
 #[test]
-fn constants(rt: HostRuntime) -> Result<(), Fail> {
+fn plain_constants(rt: HostRuntime) -> Result<(), Fail> {
     let alloc = rt.alloc();
-    for (text, ty, want) in CONSTANTS {
-        let ty = named(alloc, ty)?;
-        let found = parse_constant(alloc, text, &ty)?;
+    for (text, ty, want) in PLAIN {
+        let literal = literal_of(alloc, text, ty)?;
         assert_eq!(rt;
-            shown(alloc, &found)?.as_slice(),
+            literal.as_slice(),
             want.unwrap_or("none").as_bytes(),
             "at {text:?}"
         );
     }
     Ok(())
+}
+
+#[test]
+fn numbers(rt: HostRuntime) -> Result<(), Fail> {
+    let alloc = rt.alloc();
+    for (text, ty, want) in NUMBERS {
+        let literal = literal_of(alloc, text, ty)?;
+        assert_eq!(rt;
+            literal.as_slice(),
+            want.unwrap_or("none").as_bytes(),
+            "at {text:?}"
+        );
+    }
+    Ok(())
+}
+
+#[test]
+fn dates_and_arrays(rt: HostRuntime) -> Result<(), Fail> {
+    let alloc = rt.alloc();
+    for (text, ty, want) in DATES_AND_ARRAYS {
+        let literal = literal_of(alloc, text, ty)?;
+        assert_eq!(rt;
+            literal.as_slice(),
+            want.unwrap_or("none").as_bytes(),
+            "at {text:?}"
+        );
+    }
+    Ok(())
+}
+
+#[test]
+fn structs(rt: HostRuntime) -> Result<(), Fail> {
+    let alloc = rt.alloc();
+    for (text, ty, want) in STRUCTS {
+        let literal = literal_of(alloc, text, ty)?;
+        assert_eq!(rt;
+            literal.as_slice(),
+            want.unwrap_or("none").as_bytes(),
+            "at {text:?}"
+        );
+    }
+    Ok(())
+}
+
+/// The literal of the constant of a type that a text is.
+fn literal_of(alloc: Global, text: &[u8], ty: Type) -> Result<Bytes, AllocError> {
+    let ty = named(alloc, ty)?;
+    shown(alloc, &parse_constant(alloc, text, &ty)?)
 }
 
 /// The literal of a value whose dates fit, or `none`.
