@@ -4,6 +4,8 @@
 pub mod grouping;
 pub mod groups;
 mod runs;
+#[cfg(test)]
+mod tests;
 
 pub use grouping::group_rows;
 pub use groups::{Group, Groups};
