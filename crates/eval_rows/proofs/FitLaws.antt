@@ -116,3 +116,9 @@ joins_fit gives kind columns cs ds left_width right_width lefts rights ls rs row
     j.2 ∙ ap (λ (n : ℕ). joined.joined kind n right_width ls rs j.0) left_is ∙ ap (λ (n : ℕ). joined.joined kind (length cs) n ls rs j.0) right_is
     ∙ ap (λ (z : List joined.Row). joined.joined kind (length cs) (length ds) z rs j.0) lefts_are ∙ ap (λ (z : List joined.Row). joined.joined kind (length cs) (length ds) lefts z j.0) rights_are in
     ap (λ (z : List (Named SqlType)). list_all (fits_row z) rows) are ∙ ap (list_all (fits_row (cs ++ ds))) rows_are ∙ joined_fits cs ds kind lefts rights j.0 left right
+
+-- and so do those of a join by pairs that are known
+pub rows_fit : (kind : JoinKind) (columns cs ds : List (Named SqlType)) (lefts rights : List joined.Row) (pairs : joined.Pairs) (rows : List joined.Row) → columns ≡ cs ++ ds →
+    joined.Joined kind (length cs) (length ds) lefts rights pairs rows → list_all (fits_row cs) lefts ≡ true → list_all (fits_row ds) rights ≡ true → list_all (fits_row columns) rows ≡ true
+rows_fit kind columns cs ds lefts rights pairs rows are rows_are left right =
+    ap (λ (z : List (Named SqlType)). list_all (fits_row z) rows) are ∙ ap (list_all (fits_row (cs ++ ds))) rows_are ∙ joined_fits cs ds kind lefts rights pairs left right

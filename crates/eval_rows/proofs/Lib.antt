@@ -6,3 +6,4 @@ mod SortLaws
 mod CountLaws
 mod PartnerLaws
 mod SetLaws
+mod KeyLaws

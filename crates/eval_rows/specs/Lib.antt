@@ -2,3 +2,4 @@ pub mod Met
 pub mod Joins
 pub mod Counts
 pub mod Sets
+pub mod EqualKeys

@@ -1,5 +1,5 @@
 -- The right rows of a join that meet no left row, where the left rows are gone through one by one.
-use Rattle.std.specs.Prelude.{ℕ, Bool, true, false, ◌||◌, List, [], ◌∷◌, ◌++◌, replicate}
+use Rattle.std.specs.Prelude.{ℕ, Bool, true, false, ◌||◌, List, [], ◌∷◌, ◌++◌, replicate, set}
 use Rattle.sql_types.specs.declared.kinds.JoinKind.{JoinKind}
 use Rattle.sql_types.specs.declared.kinds.JoinKind.TheVariants as join
 use Rattle.sql_types.specs.declared.value.Value.TheVariants.{Null}
@@ -10,6 +10,11 @@ abbrev pub either_each : List Bool → List Bool → List Bool
 either_each [] kept = []
 either_each (had ∷ more) [] = had ∷ more
 either_each (had ∷ more) (keep ∷ kept) = (had || keep) ∷ either_each more kept
+
+-- which have met one, with those of these numbers
+abbrev pub noted_at : List Bool → List ℕ → List Bool
+noted_at had [] = had
+noted_at had (number ∷ numbers) = noted_at (set had number true) numbers
 
 -- the rows that have met none, with NULL for each column of the left
 abbrev pub unmet : ℕ → List Row → List Bool → List Row

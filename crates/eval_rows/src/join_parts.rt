@@ -1,8 +1,9 @@
 //! The rows of a join, by the pairs that are kept.
-ghost use Rattle.std.specs.Prelude.{◌≡◌, ◌++◌, IfOk, length, replicate, false};
+ghost use Rattle.std.specs.Prelude.{◌≡◌, ◌<◌, ◌++◌, [], IfOk, length, map, replicate, false, slice_index_or};
+ghost use Rattle.std.specs.List.{All};
 ghost use Rattle.sql_types.specs.declared.value.Value.TheVariants.{Null};
 ghost use Rattle.sql_types.specs.Joined as joined;
-ghost use Rattle.eval_rows.specs.Met.{either_each, unmet, from_unmet};
+ghost use Rattle.eval_rows.specs.Met.{either_each, noted_at, unmet, from_unmet};
 
 use sql_types::{Columns, Items, JoinKind, Value, Values, copy_columns, copy_value};
 use std::alloc::{AllocError, Global};
@@ -125,6 +126,34 @@ pub(crate) fn note_met(mut had: Items<bool>, kept: &[bool]) -> Items<bool>
         if *keep {
             had.set(place, true);
         }
+    }
+    had
+}
+
+/// A left row with each right row of these numbers.
+pub(crate) fn met_numbers(
+    alloc: Global,
+    left: &[Value],
+    rights: &[Values],
+    numbers: &[usize],
+) -> Result<Items<Values>, AllocError>
+    requires { All (λ number. number < length rights.now) numbers.now }
+    ensures { IfOk result (λ rows. rows ≡ map (λ number. left.now ++ slice_index_or rights.now number []) numbers.now) }
+{
+    let mut rows = Items::new(alloc);
+    for number in numbers {
+        rows.push(beside(alloc, left, rights[*number].as_slice())?)?;
+    }
+    Ok(rows)
+}
+
+/// Which right rows have met a left row, with those of these numbers.
+pub(crate) fn note_numbers(mut had: Items<bool>, numbers: &[usize]) -> Items<bool>
+    requires { All (λ number. number < length had) numbers.now }
+    ensures { result ≡ noted_at had numbers.now }
+{
+    for number in numbers {
+        had.set(*number, true);
     }
     had
 }

@@ -4,6 +4,8 @@
 pub mod cutting;
 mod join_parts;
 pub mod joining;
+pub mod key_joining;
+mod key_order;
 mod list_parts;
 mod set_parts;
 pub mod sets;
@@ -13,5 +15,6 @@ mod tests;
 
 pub use cutting::cut_rows;
 pub use joining::join_rows;
+pub use key_joining::join_equal;
 pub use sets::set_rows;
 pub use sorting::sort_rows;

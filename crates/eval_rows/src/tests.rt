@@ -46,6 +46,7 @@ fn joins(rt: HostRuntime) -> Result<(), Fail> {
     let right = rows_of(alloc, &RIGHT)?;
     for (kind, want) in JOINED {
         assert_eq!(rt; joined_text(alloc, kind, &left, &right)?.as_str(), want);
+        assert_eq!(rt; equal_text(alloc, kind, &left, &right)?.as_str(), want);
     }
     Ok(())
 }
@@ -91,6 +92,43 @@ fn joined_text(
         Ok(rows) => text_of(alloc, &rows),
         Err(_) => String::from_str(alloc, "?"),
     }
+}
+
+/// The join by equal first columns.
+fn equal_text(
+    alloc: Global,
+    kind: JoinKind,
+    left: &Rows,
+    right: &Rows,
+) -> Result<String, AllocError> {
+    if left.columns.is_empty() || right.columns.is_empty() {
+        return String::from_str(alloc, "?");
+    }
+    let joined = match kind {
+        JoinKind::Cross => return String::from_str(alloc, "?"),
+        JoinKind::Inner => join_equal(alloc, JoinKind::Inner, left, right, 0, 0)?,
+        JoinKind::Left => join_equal(alloc, JoinKind::Left, left, right, 0, 0)?,
+        JoinKind::Right => join_equal(alloc, JoinKind::Right, left, right, 0, 0)?,
+        JoinKind::Full => join_equal(alloc, JoinKind::Full, left, right, 0, 0)?,
+    };
+    text_of(alloc, &joined)
+}
+
+/// Each of a thousand keys meets its own.
+#[test]
+fn joins_many(rt: HostRuntime) -> Result<(), Fail> {
+    let alloc = rt.alloc();
+    let mut pairs = Vec::new(alloc);
+    for key in 0..1_000_i64 {
+        pairs.push((Some(key), Some(0)))?;
+    }
+    let rows = rows_of(alloc, &pairs)?;
+    if rows.columns.is_empty() {
+        return Ok(());
+    }
+    let joined = join_equal(alloc, JoinKind::Full, &rows, &rows, 0, 0)?;
+    assert_eq!(rt; joined.rows.len(), 1_000);
+    Ok(())
 }
 
 /// Whether the first values are equal. A 9 on the right is a fault.
