@@ -1,0 +1,5 @@
+pub mod Numbers
+pub mod Marked
+pub mod Openings
+pub mod Fronts
+pub mod RowLaws
