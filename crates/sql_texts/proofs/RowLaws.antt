@@ -1,5 +1,5 @@
 -- The rows of a text.
-use Rattle.std.proofs.Common.{◌≡◌, ℕ, Bool, true, false, ◌==◌, List, [], ◌∷◌, ◌++◌, map, length, codes, decimal, refl, ap, sym, subst, ◌∙◌, append_assoc}
+use Rattle.std.proofs.Common.{◌≡◌, ℕ, true, false, ◌==◌, List, [], ◌∷◌, ◌++◌, map, length, codes, decimal, refl, ap, sym, subst, ◌∙◌, append_assoc}
 use Rattle.std.proofs.lemmas.Bool.{false≢true, and_parts}
 use Rattle.std.proofs.lemmas.List.{append_cancel_left}
 use Rattle.std.specs.List.{list_all}
@@ -11,7 +11,8 @@ use Rattle.sql_types.specs.declared.sql_type.SqlType.TheShapes as shapes
 use Rattle.sql_types.specs.declared.value.Value.{Value}
 use Rattle.sql_ast.specs.Literals.{LiteralText}
 use Rattle.sql_ast.specs.Rows.{header_text, row_text, rows_lines, count_text, RowsText}
-use Rattle.sql_texts.proofs.Fronts.{With, bare_fields, fields_once, literal_once, literal_first}
+use Rattle.sql_texts.proofs.Fronts.{literal_once}
+use Rattle.sql_texts.proofs.Lists.{With, bare_fields, fields_once, literal_first}
 use Rattle.sql_texts.proofs.Numbers.{first_of}
 use Rattle.sql_texts.proofs.Openings.{opening}
 
