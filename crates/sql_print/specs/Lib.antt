@@ -1,2 +1,4 @@
+pub mod ExprPieces
 pub mod Pages
 pub mod PartPieces
+pub mod QueryPieces
