@@ -133,24 +133,6 @@ fn query_planned<I: Inputs>(
     }
 }
 
-// Goes on from a query to its table, if the query is within the limits.
-fn query_measured<I: Inputs>(
-    alloc: Global,
-    inputs: &mut I,
-    table: &TableDef,
-    tokens: &[Token],
-    query: &Query,
-) -> Result<Rows, Stop>
-    requires { SmallOf tokens.now query.now }
-    ensures said { stage.TokensSaid table.now (I.content inputs.old) (I.begun inputs.new) tokens.now result }
-    ensures counted { Counted (I.faults inputs.old) (I.faults inputs.new) (I.broken inputs.new) result }
-{
-    match exceeded(query) {
-        Some(name) => Err(Stop::Limit(name)),
-        None => query_planned(alloc, inputs, table, tokens, query),
-    }
-}
-
 // Reads tokens of the form that is taken as a query, and goes on to its table.
 fn tokens_said<I: Inputs>(
     alloc: Global,
@@ -162,7 +144,10 @@ fn tokens_said<I: Inputs>(
     ensures counted { Counted (I.faults inputs.old) (I.faults inputs.new) (I.broken inputs.new) result }
 {
     match read_query(alloc, tokens) {
-        Ok(query) => query_measured(alloc, inputs, table, tokens, &query),
+        Ok(query) => match exceeded(&query) {
+            Some(name) => Err(Stop::Limit(name)),
+            None => query_planned(alloc, inputs, table, tokens, &query),
+        },
         Err(Refusal::Rule { .. }) => Err(Stop::OtherForm),
         Err(Refusal::OutOfMemory) => Err(Stop::OutOfMemory),
     }
