@@ -12,12 +12,12 @@ use Rattle.sql_ast.specs.declared.refusal.Refusal.{Refusal}
 use Rattle.sql_ast.specs.declared.refusal.Refusal.TheVariants as refused
 use Rattle.small_run.specs.Plans.{one}
 use Rattle.gsql.specs.declared.stop.Stop.{Stop}
-use Rattle.gsql.specs.declared.stop.Stop.TheVariants.{Unread, OtherForm, BadTable, Limit, ReadFault, OutOfMemory}
+use Rattle.gsql.specs.declared.stop.Stop.TheVariants.{Unread, OtherForm, Limit, ReadFault, OutOfMemory}
 use Rattle.gsql.specs.declared.status.Status.{Status}
 use Rattle.gsql.specs.declared.status.Status.TheVariants as status
 use Rattle.gsql.specs.Counted.{Counted}
 use Rattle.gsql.specs.Report.{Inside, Outside, Report, Staged, Wrote, Ran}
-use Rattle.gsql.specs.Stages.{CatalogStage, NoQuery, Within}
+use Rattle.gsql.specs.Stages.{CatalogStage, NoQuery}
 use Rattle.gsql.specs.Told.{Tells}
 use Rattle.gsql.specs.Words.{asked}
 
@@ -30,7 +30,6 @@ ran words inside output error printed answer out err same report first second = 
     whole (status.Done tree) r = (out, err, r, first, second)
     whole (status.Refused rule place) r = (out, err, r, first, second)
     whole (status.Usage kind) r = (out, err, r, first, second)
-    whole (status.BadTable table row field) r = (out, err, r, first, second)
     whole (status.Limit name) r = (out, err, r, first, second)
     whole (status.ReadFault file) r = (out, err, r, first, second)
     whole status.WriteFault r = absurd r
@@ -41,12 +40,12 @@ abbrev pub refuses : (A : Type 0) {E : Type 0} → E → Result A E
 refuses A e = Err e
 
 -- the one query of these tokens has no type
-pub no_query : (table : TableDef) (tokens : List Token) (query : Query) → ((p q : Query) → SmallOf tokens p → SmallOf tokens q → p ≡ q) → SmallOf tokens query → Within query →
+pub no_query : (table : TableDef) (tokens : List Token) (query : Query) → ((p q : Query) → SmallOf tokens p → SmallOf tokens q → p ≡ q) → SmallOf tokens query →
     (broken : ℕ × ℕ) → TypeQuery (one table) query nothing_in_sight ≡ Err broken → NoQuery table tokens
-no_query table tokens query once small within broken untyped other also =
+no_query table tokens query once small broken untyped other columns also typed =
     let same : other ≡ query = once other query also small in
     let same_type : TypeQuery (one table) other nothing_in_sight ≡ TypeQuery (one table) query nothing_in_sight = ap (λ q. TypeQuery (one table) q nothing_in_sight) same in
-    (subst Within (sym same) within, λ columns typed. apart (sym typed ∙ same_type ∙ untyped))
+    apart (sym typed ∙ same_type ∙ untyped)
   where
     apart : {columns : List (Named SqlType)} {broken : ℕ × ℕ} → Ok columns ≡ Err broken → ⊥
     apart e = cc
@@ -62,7 +61,6 @@ reported words inside catalog query answer asks stage counted ending out err tel
     status_of (Ok rows) = status.Done []
     status_of (Err (Unread place)) = status.Refused 1 place
     status_of (Err OtherForm) = status.Refused 2 0
-    status_of (Err (BadTable row field)) = status.BadTable 0 row field
     status_of (Err (Limit name)) = status.Limit name
     status_of (Err (ReadFault file)) = status.ReadFault file
     status_of (Err OutOfMemory) = status.OutOfMemory
@@ -71,7 +69,6 @@ reported words inside catalog query answer asks stage counted ending out err tel
     ending_of (Ok rows) t = t.0
     ending_of (Err (Unread place)) t = t.0
     ending_of (Err OtherForm) t = t.0
-    ending_of (Err (BadTable row field)) t = t.0
     ending_of (Err (Limit name)) t = t.0
     ending_of (Err (ReadFault file)) t = t.0
     ending_of (Err OutOfMemory) t = t.0
@@ -80,7 +77,6 @@ reported words inside catalog query answer asks stage counted ending out err tel
     told (Ok rows) s n t = (rows, s, refl, t.1, t.2, n)
     told (Err (Unread place)) s n t = (inl (refl, s), t.1, t.2, n)
     told (Err OtherForm) s n t = (inr (refl, refl, s), t.1, t.2, n)
-    told (Err (BadTable row field)) s n t = (refl, s, t.1, t.2, n)
     told (Err (Limit name)) s n t = (s, t.1, t.2, n)
     told (Err (ReadFault file)) s n t = (s, n.0, n.1, t.1, t.2)
     told (Err OutOfMemory) s n t = (t.1, t.2)
