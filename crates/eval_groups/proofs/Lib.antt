@@ -1,2 +1,5 @@
 mod PartedLaws
-mod RunLaws
+mod GroupLaws
+mod AggregateLaws
+pub mod AggregableLaws
+mod TestLaws

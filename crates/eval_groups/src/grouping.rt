@@ -1,28 +1,24 @@
 //! GROUP BY.
-ghost use Rattle.std.specs.Prelude.{◌≡◌, [], ◌∷◌, IfOk, length, slice_index_or};
-ghost use Rattle.sql_types.specs.declared.value.Value.TheVariants.{Null};
-ghost use Rattle.sql_types.specs.Parted.{Grouped, numbers_from};
-ghost use Rattle.eval_groups.specs.Groups.{parts, key_of, keys_of};
-ghost use Rattle.eval_groups.specs.Runs.{numbered};
+ghost use Rattle.std.specs.Prelude.{◌≡◌, [], ◌∷◌, IfOk, OnOk, length};
+ghost use Rattle.sql_types.specs.Parted.{Grouped, Parted, numbers_from};
+ghost use Rattle.key_classes.specs.Keys.{values_of};
+ghost use Rattle.eval_groups.specs.Groups.{part, parts, keys_of, with_member};
 
 use crate::groups::{Group, Groups};
-use crate::runs::{Keyed, by_first, in_order, runs};
-use sql_types::{Items, Rows, Value, Values, copy_value};
+use key_classes::{Classes, Key};
+use sql_types::{Items, Rows, Values};
 use std::alloc::{AllocError, Global};
 
 /// The groups of rows by the values of some columns, where NULL is the same as NULL. The groups stand in the order of their
-/// first rows. Without columns there is one group, also over no rows. A column that isn't there counts as NULL. It copies
-/// the keys of each row, and sorts the rows by their keys.
+/// first rows. Without columns there is one group, also over no rows. A column that isn't there counts as NULL.
+///
+/// Keys are found by a hash, so the time is linear in the rows on average. A key is copied once for its group.
 pub fn group_rows(alloc: Global, rows: &Rows, keys: &[usize]) -> Result<Groups, AllocError>
     ensures { IfOk result (λ groups. Grouped (length keys.now) (keys_of keys.now rows.now.rows) (parts groups)) }
 {
     match keys {
         [] => one_group(alloc, rows.rows.as_slice()),
-        [_, ..] => {
-            let list = in_order(keyed_rows(alloc, keys, rows.rows.as_slice())?);
-            let groups = by_first(runs(alloc, list.as_slice())?);
-            Ok(Items::from_vec(groups))
-        }
+        [_, ..] => keyed_groups(alloc, keys, rows.rows.as_slice()),
     }
 }
 
@@ -42,38 +38,48 @@ fn one_group(alloc: Global, rows: &[Values]) -> Result<Groups, AllocError>
     Ok(groups)
 }
 
-/// The key of each row, with the row's number.
-fn keyed_rows(alloc: Global, keys: &[usize], rows: &[Values]) -> Result<Vec<Keyed>, AllocError>
-    ensures { IfOk result (λ list. list.items ≡ numbered 0 (keys_of keys.now rows.now)) }
+/// A group for each key.
+fn keyed_groups(alloc: Global, keys: &[usize], rows: &[Values]) -> Result<Groups, AllocError>
+    ensures { IfOk result (λ groups. Parted (keys_of keys.now rows.now) (parts groups)) }
 {
-    let mut list = Vec::with_capacity(alloc, rows.len())?;
+    let mut classes = Classes::start(alloc);
+    let mut groups = Vec::new(alloc);
     for (number, row) in rows.iter().enumerate() {
-        let key = key_of(alloc, keys, row.as_slice())?;
-        list.push(Keyed { key, number })?;
+        let key = Key {
+            columns: keys,
+            row: row.as_slice(),
+        };
+        let class = classes.add(key)?;
+        add_row(alloc, &mut groups, class, &key, number)?;
     }
-    Ok(list)
+    Ok(Items::from_vec(groups))
 }
 
-/// The values of a row in some columns.
-fn key_of(alloc: Global, keys: &[usize], row: &[Value]) -> Result<Values, AllocError>
-    ensures { IfOk result (λ key. key ≡ key_of keys.now row.now) }
+/// Adds a row to a group, or begins a group with it where there is none of this number.
+fn add_row(
+    alloc: Global,
+    groups: &mut Vec<Group>,
+    class: usize,
+    key: &Key,
+    row: usize,
+) -> Result<(), AllocError>
+    ensures { OnOk result (parts groups.new.items ≡ with_member (parts groups.old.items) class (values_of key.now) row) }
 {
-    let mut key = Items::new(alloc);
-    for column in keys {
-        key.push(copy_at(alloc, row, *column)?)?;
+    if class < groups.len() {
+        let group = &mut groups[class];
+        group.rows.push(row)?;
+    } else {
+        groups.push(started(alloc, key, row)?)?;
     }
-    Ok(key)
+    Ok(())
 }
 
-fn copy_at(alloc: Global, row: &[Value], column: usize) -> Result<Value, AllocError>
-    ensures { IfOk result (λ value. value ≡ slice_index_or row.now column Null) }
+/// The group of a first row.
+fn started(alloc: Global, key: &Key, row: usize) -> Result<Group, AllocError>
+    ensures { IfOk result (λ group. part group ≡ record { key = values_of key.now; members = row ∷ [] }) }
 {
-    let absent = Value::Null;
-    copy_value(alloc, value_at(row, column, &absent))
-}
-
-fn value_at<'a>(row: &'a [Value], column: usize, absent: &'a Value) -> &'a Value
-    ensures { result.now ≡ slice_index_or row.now column absent.now }
-{
-    row.get(column).unwrap_or(absent)
+    let mut rows = Items::new(alloc);
+    rows.push(row)?;
+    let key = key.copy(alloc)?;
+    Ok(Group { key, rows })
 }

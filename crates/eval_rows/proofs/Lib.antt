@@ -3,7 +3,9 @@ mod CutLaws
 mod JoinLaws
 mod NoteLaws
 mod SortLaws
+mod ByClassLaws
 mod CountLaws
 mod PartnerLaws
 mod SetLaws
 mod KeyLaws
+mod TestLaws

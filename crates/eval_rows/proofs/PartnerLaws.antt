@@ -1,134 +1,115 @@
 -- How often a row stands among the rows that have a partner, and among those that have none.
-use Rattle.std.proofs.Common.{◌≡◌, ℕ, zero, suc, ◌+◌, ◌-◌, Bool, true, false, cond, List, [], ◌∷◌, ◌++◌, map, refl, ap, sym, ◌∙◌, subst, arith}
-use Rattle.std.specs.Prelude.{min}
+use Rattle.std.proofs.Common.{◌≡◌, ℕ, zero, suc, ◌+◌, ◌-◌, ◌<◌, ◌≤◌, Bool, true, false, cond, List, [], ◌∷◌, ◌++◌, length, get_or, set, take, refl, ap, sym, ◌∙◌, arith, None, Some}
 use Rattle.std.specs.Bool.{beq}
 use Rattle.std.proofs.lemmas.Bool.{false≢true}
+use Rattle.std.proofs.lemmas.List.{map-append}
+use denote.Ref.{Bor}
 use Rattle.sql_types.specs.Joined.{Row}
-use Rattle.eval_rows.specs.Counts.{is_same, comes_before, count, NoneBefore, Ascends, from_row, has_partner, without_first, partnered, count_partnered}
-use Rattle.eval_rows.proofs.CountLaws.{one, one_is, told, differs_by, none_of, none_beyond}
+use Rattle.sql_types.specs.SameValue.{same_values}
+use Rattle.key_classes.specs.Classes.{number_of}
+use Rattle.eval_rows.specs.ByClass.{value_at, by_class}
+use Rattle.eval_rows.specs.Counts.{shown, count, count_partnered}
+use Rattle.key_classes.specs.KeyLaws.{told}
+use Rattle.key_classes.proofs.ClassLaws.{number_within}
+use Rattle.eval_rows.proofs.ByClassLaws.{class_put, OneMore}
+use Rattle.eval_rows.proofs.CountLaws.{one, count_next, count_append}
 
--- ---- the first rows are left out, which come before this one
+-- ---- one row more is counted
 
-left_by : (row x other : Row) (b : Bool) → is_same row other ≡ b → comes_before other x ≡ true → comes_before row x ≡ false → is_same row other ≡ false
-left_by row x other true is early late = absurd (false≢true (sym late ∙ ap (λ (z : Row). comes_before z x) (told row other is) ∙ early))
-left_by row x other false is early late = is
+more_by : (b : Bool) (c : ℕ) → cond b (c + 1) c ≡ c + cond b 1 0
+more_by true c = refl
+more_by false c = omega arith
 
-skipped_by : (row x other : Row) (others : List Row) (b : Bool) → comes_before other x ≡ b → comes_before row x ≡ false → count row (from_row x others) ≡ count row others →
-    count row (cond b (from_row x others) (other ∷ others)) ≡ count row (other ∷ others)
-skipped_by row x other others true is late more =
-    let here : one row other ≡ 0 = one_is row other false (left_by row x other (is_same row other) refl is late) in
-    more ∙ omega (arith, here)
-skipped_by row x other others false is late more = refl
+pub tally_more : (keys after : List Row) (left put : List ℕ) (key : Row) (list : List (Bor Row)) (i : ℕ) (b : Bor Row) → i < length list → b ≡ get_or list i b → key ≡ b.now →
+    OneMore 0 (λ c. c + 1) keys left key after put → ((row : Row) → by_class 0 keys left row ≡ count row (shown (take i list))) → (row : Row) → by_class 0 after put row ≡ count row (shown (take (i + 1) list))
+tally_more keys after left put key list i b within is whole step each row =
+    step.kept row ∙ more_by (same_values row key) (by_class 0 keys left row) ∙ (λ j. each row j + one row (whole j)) ∙ sym (count_next row list i b within is)
 
-skipped : (row x : Row) (others : List Row) → comes_before row x ≡ false → count row (from_row x others) ≡ count row others
-skipped row x [] late = refl
-skipped row x (other ∷ others) late = skipped_by row x other others (comes_before other x) refl late (skipped row x others late)
+-- ---- one row is taken
 
-rest_by : (x other : Row) (others : List Row) (b : Bool) → Ascends (other ∷ others) → Ascends (from_row x others) → Ascends (cond b (from_row x others) (other ∷ others))
-rest_by x other others true up more = more
-rest_by x other others false up more = up
+taken_by : (b : Bool) (x y : ℕ) → (b ≡ true → x ≡ y) → cond b (x - 1) y ≡ y - (cond b 1 0 + 0)
+taken_by true x y same = ap (λ n. n - 1) (same refl)
+taken_by false x y same = omega arith
 
-rest_ascends : (x : Row) (others : List Row) → Ascends others → Ascends (from_row x others)
-rest_ascends x [] up = tt
-rest_ascends x (other ∷ others) up = rest_by x other others (comes_before other x) up (rest_ascends x others up.1)
+pub one_taken : (keys : List Row) (left put : List ℕ) (key : Row) (n : ℕ) → length left ≡ length keys → number_of keys key ≡ Some n → put ≡ set left n (get_or left n 0 - 1) → (row : Row) →
+    by_class 0 keys put row ≡ by_class 0 keys left row - count row (key ∷ [])
+one_taken keys left put key n long here put_is row =
+    ap (λ (z : List ℕ). by_class 0 keys z row) put_is ∙ class_put 0 keys left key row n (get_or left n 0 - 1) here (omega (arith, long, number_within keys key n here))
+    ∙ taken_by (same_values row key) (get_or left n 0) (by_class 0 keys left row) (λ same. sym (ap (λ (z : Row). by_class 0 keys left z) (told row key same) ∙ ap (value_at 0 left) here))
 
--- what is left begins with a row that doesn't come before this one
-abbrev StartsLate : Row → List Row → Type 0
-StartsLate x [] = Unit {0}
-StartsLate x (other ∷ others) = comes_before other x ≡ false
+nothing_by : (b : Bool) (n : ℕ) → (b ≡ true → n ≡ 0) → n ≡ n - (cond b 1 0 + 0)
+nothing_by true n none = omega (arith, none refl)
+nothing_by false n none = omega arith
 
-late_by : (x other : Row) (others : List Row) (b : Bool) → comes_before other x ≡ b → StartsLate x (from_row x others) → StartsLate x (cond b (from_row x others) (other ∷ others))
-late_by x other others true is more = more
-late_by x other others false is more = is
+pub none_taken : (keys : List Row) (left : List ℕ) (key : Row) → number_of keys key ≡ None → (row : Row) → by_class 0 keys left row ≡ by_class 0 keys left row - count row (key ∷ [])
+none_taken keys left key here row =
+    nothing_by (same_values row key) (by_class 0 keys left row) (λ same. ap (λ (z : Row). by_class 0 keys left z) (told row key same) ∙ ap (value_at 0 left) here)
 
-starts_late : (x : Row) (others : List Row) → StartsLate x (from_row x others)
-starts_late x [] = tt
-starts_late x (other ∷ others) = late_by x other others (comes_before other x) refl (starts_late x others)
+-- ---- one row more finds a partner or doesn't
 
-without_ascends : (found : Bool) (rest : List Row) → Ascends rest → Ascends (without_first found rest)
-without_ascends found [] up = tt
-without_ascends true (other ∷ rest) up = up.1
-without_ascends false (other ∷ rest) up = up
+-- a row of which so many were gone through, beside so many partners
+kept_by : (wanted found same : Bool) (c m k : ℕ) → k ≡ cond same 1 0 → beq found wanted ≡ true → (same ≡ true → found ≡ true → c < m) → (same ≡ true → found ≡ false → m ≤ c) → count_partnered wanted c m + k ≡ count_partnered wanted (c + k) m
+kept_by wanted found false c m k is agree some none =
+    let here : k ≡ 0 = is in
+    let none_more : count_partnered wanted c m + k ≡ count_partnered wanted c m = omega (arith, here) in
+    none_more ∙ ap (λ n. count_partnered wanted n m) (omega (arith, here))
+kept_by true true true c m k is agree some none = omega (arith, is, some refl refl)
+kept_by false false true c m k is agree some none = omega (arith, is, none refl refl)
+kept_by true false true c m k is agree some none = absurd (false≢true agree)
+kept_by false true true c m k is agree some none = absurd (false≢true agree)
 
--- ---- one row, and those behind it
+left_out_by : (wanted found same : Bool) (c m k : ℕ) → k ≡ cond same 1 0 → beq found wanted ≡ false → (same ≡ true → found ≡ true → c < m) → (same ≡ true → found ≡ false → m ≤ c) → count_partnered wanted c m ≡ count_partnered wanted (c + k) m
+left_out_by wanted found false c m k is agree some none =
+    let here : k ≡ 0 = is in
+    ap (λ n. count_partnered wanted n m) (omega (arith, here))
+left_out_by true false true c m k is agree some none = omega (arith, is, none refl refl)
+left_out_by false true true c m k is agree some none = omega (arith, is, some refl refl)
+left_out_by true true true c m k is agree some none = absurd (false≢true (sym agree))
+left_out_by false false true c m k is agree some none = absurd (false≢true (sym agree))
 
--- a row that comes before it stands nowhere
-early_by : (wanted b : Bool) (row x : Row) (more : List Row) (k m : ℕ) → one row x ≡ 0 → count row more ≡ count_partnered wanted 0 k → count row (cond b (x ∷ more) more) ≡ count_partnered wanted 0 m
-early_by true true row x more k m here are = omega (arith, here, are)
-early_by true false row x more k m here are = omega (arith, are)
-early_by false true row x more k m here are = omega (arith, here, are)
-early_by false false row x more k m here are = omega (arith, are)
+module _ (wanted found : Bool) (list : List (Bor Row)) (others : List Row) (i : ℕ) (b : Bor Row) (left : Row → ℕ) where
+  -- what was found, by what was left of the row
+  found_some : (row : Row) → ((x : Row) → left x ≡ count x others - count x (shown (take i list))) → (found ≡ true → 0 < left b.now) → same_values row b.now ≡ true → found ≡ true → count row (shown (take i list)) < count row others
+  found_some row each some same is =
+      let here : 0 < count b.now others - count b.now (shown (take i list)) = omega (arith, some is, each b.now) in
+      let less : count b.now (shown (take i list)) < count b.now others = omega (arith, here) in
+      omega (arith, less, ap (λ (z : Row). count z others) (told row b.now same), ap (λ (z : Row). count z (shown (take i list))) (told row b.now same))
 
--- it is the same as the first of the others
-taken_by : (wanted : Bool) (row x : Row) (more : List Row) (o c k : ℕ) → o ≡ one row x → count row more ≡ count_partnered wanted c k → count row (cond (beq true wanted) (x ∷ more) more) ≡ count_partnered wanted (one row x + c) (o + k)
-taken_by true row x more o c k is are = omega (arith, is, are)
-taken_by false row x more o c k is are = omega (arith, is, are)
+  found_none : (row : Row) → ((x : Row) → left x ≡ count x others - count x (shown (take i list))) → (found ≡ false → left b.now ≡ 0) → same_values row b.now ≡ true → found ≡ false → count row others ≤ count row (shown (take i list))
+  found_none row each none same is =
+      let here : count b.now others - count b.now (shown (take i list)) ≡ 0 = sym (each b.now) ∙ none is in
+      let less : count b.now others ≤ count b.now (shown (take i list)) = omega (arith, here) in
+      omega (arith, less, ap (λ (z : Row). count z others) (told row b.now same), ap (λ (z : Row). count z (shown (take i list))) (told row b.now same))
 
--- it has no partner
-alone_by : (wanted b : Bool) (row x : Row) (more : List Row) (c m : ℕ) → one row x ≡ cond b 1 0 → (b ≡ true → m ≡ 0) → count row more ≡ count_partnered wanted c m →
-    count row (cond (beq false wanted) (x ∷ more) more) ≡ count_partnered wanted (one row x + c) m
-alone_by true true row x more c m is none are =
-    let e : m ≡ 0 = none refl in
-    omega (arith, e, are)
-alone_by true false row x more c m is none are = omega (arith, is, are)
-alone_by false true row x more c m is none are =
-    let e : m ≡ 0 = none refl in
-    omega (arith, e, are)
-alone_by false false row x more c m is none are = omega (arith, is, are)
+  pub kept_more : (kept put : List (Bor Row)) → i < length list → b ≡ get_or list i b → ((x : Row) → left x ≡ count x others - count x (shown (take i list))) → (found ≡ true → 0 < left b.now) → (found ≡ false → left b.now ≡ 0) → beq found wanted ≡ true →
+      put ≡ kept ++ b ∷ [] → ((x : Row) → count x (shown kept) ≡ count_partnered wanted (count x (shown (take i list))) (count x others)) →
+      (row : Row) → count row (shown put) ≡ count_partnered wanted (count row (shown (take (i + 1) list))) (count row others)
+  kept_more kept put within is each some none agree put_is so_far row =
+      let shown_is : shown put ≡ shown kept ++ b.now ∷ [] = ap shown put_is ∙ map-append (λ (z : Bor Row). z.now) kept (b ∷ []) in
+      let long = count_append row (shown kept) (b.now ∷ []) in
+      let here : count row (shown put) ≡ count row (shown kept) + one row b.now = ap (count row) shown_is ∙ long ∙ omega arith in
+      here ∙ ap (λ n. n + one row b.now) (so_far row)
+      ∙ kept_by wanted found (same_values row b.now) (count row (shown (take i list))) (count row others) (one row b.now) refl agree (found_some row each some) (found_none row each none)
+      ∙ ap (λ n. count_partnered wanted n (count row others)) (sym (count_next row list i b within is))
 
-step_by : (wanted b : Bool) (row x other : Row) (rows others more : List Row) → is_same x other ≡ b → comes_before other x ≡ false → Ascends (other ∷ others) →
-    count row more ≡ count_partnered wanted (count row rows) (count row (cond b others (other ∷ others))) →
-    count row (cond (beq b wanted) (x ∷ more) more) ≡ count_partnered wanted (one row x + count row rows) (count row (other ∷ others))
-step_by wanted true row x other rows others more is late up are =
-    taken_by wanted row x more (one row other) (count row rows) (count row others) (ap (one row) (sym (told x other is))) are
-step_by wanted false row x other rows others more is late up are =
-    alone_by wanted (is_same row x) row x more (count row rows) (count row (other ∷ others)) refl
-    (λ same. none_beyond row x other others (told row x same) late is up.0) are
+  pub left_out_more : (kept put : List (Bor Row)) → i < length list → b ≡ get_or list i b → ((x : Row) → left x ≡ count x others - count x (shown (take i list))) → (found ≡ true → 0 < left b.now) → (found ≡ false → left b.now ≡ 0) → beq found wanted ≡ false →
+      put ≡ kept → ((x : Row) → count x (shown kept) ≡ count_partnered wanted (count x (shown (take i list))) (count x others)) →
+      (row : Row) → count row (shown put) ≡ count_partnered wanted (count row (shown (take (i + 1) list))) (count row others)
+  left_out_more kept put within is each some none agree put_is so_far row =
+      ap (λ (z : List (Bor Row)). count row (shown z)) put_is ∙ so_far row
+      ∙ left_out_by wanted found (same_values row b.now) (count row (shown (take i list))) (count row others) (one row b.now) refl agree (found_some row each some) (found_none row each none)
+      ∙ ap (λ n. count_partnered wanted n (count row others)) (sym (count_next row list i b within is))
 
-late_step : (wanted : Bool) (row x : Row) (rows rest more : List Row) → StartsLate x rest → Ascends rest →
-    count row more ≡ count_partnered wanted (count row rows) (count row (without_first (has_partner x rest) rest)) →
-    count row (cond (beq (has_partner x rest) wanted) (x ∷ more) more) ≡ count_partnered wanted (one row x + count row rows) (count row rest)
-late_step wanted row x rows [] more late up are = alone_by wanted (is_same row x) row x more (count row rows) 0 refl (λ same. refl) are
-late_step wanted row x rows (other ∷ others) more late up are = step_by wanted (is_same x other) row x other rows others more refl late up are
+pub none_left : (n : ℕ) (found : Bool) → (0 < n → found ≡ true) → found ≡ false → n ≡ 0
+none_left zero found some is = refl
+none_left (suc n) found some is = absurd (false≢true (sym is ∙ some (omega arith)))
 
-one_step : (wanted b : Bool) (row x : Row) (rows others more : List Row) → comes_before row x ≡ b → NoneBefore x rows → Ascends others →
-    count row more ≡ count_partnered wanted (count row rows) (count row (without_first (has_partner x (from_row x others)) (from_row x others))) →
-    count row (cond (beq (has_partner x (from_row x others)) wanted) (x ∷ more) more) ≡ count_partnered wanted (one row x + count row rows) (count row others)
-one_step wanted true row x rows others more early none up are =
-    let here : one row x ≡ 0 = one_is row x false (differs_by row x (is_same row x) refl early) in
-    let nowhere : count row rows ≡ 0 = none_of row x rows early none in
-    early_by wanted (beq (has_partner x (from_row x others)) wanted) row x more _ (count row others) here (are ∙ ap (λ n. count_partnered wanted n (count row (without_first (has_partner x (from_row x others)) (from_row x others)))) nowhere)
-    ∙ ap (λ n. count_partnered wanted n (count row others)) (sym (omega (arith, here, nowhere)))
-one_step wanted false row x rows others more late none up are =
-    late_step wanted row x rows (from_row x others) more (starts_late x others) (rest_ascends x others up) are
-    ∙ ap (count_partnered wanted (one row x + count row rows)) (skipped row x others late)
+-- what is left after one row more
+pub less_left : (list : List (Bor Row)) (others : List Row) (i : ℕ) (b : Bor Row) (row : Row) (n m : ℕ) → i < length list → b ≡ get_or list i b → n ≡ count row others - count row (shown (take i list)) → m ≡ n - count row (b.now ∷ []) →
+    m ≡ count row others - count row (shown (take (i + 1) list))
+less_left list others i b row n m within is before after = omega (arith, before, after, count_next row list i b within is)
 
--- ---- all rows
-
-none_partnered : (wanted : Bool) (m : ℕ) → 0 ≡ count_partnered wanted 0 m
-none_partnered true m = omega arith
-none_partnered false m = omega arith
-
-pub partnered_counts : (wanted : Bool) (row : Row) (rows others : List Row) → Ascends rows → Ascends others → count row (partnered wanted rows others) ≡ count_partnered wanted (count row rows) (count row others)
-partnered_counts wanted row [] others up beside = none_partnered wanted (count row others)
-partnered_counts wanted row (x ∷ rows) others up beside =
-    one_step wanted (comes_before row x) row x rows others _ refl up.0 beside
-    (partnered_counts wanted row rows _ up.1 (without_ascends (has_partner x (from_row x others)) (from_row x others) (rest_ascends x others beside)))
-
-none_before_by : (b : Bool) (z x : Row) (more : List Row) → comes_before x z ≡ false → NoneBefore z more → NoneBefore z (cond b (x ∷ more) more)
-none_before_by true z x more late none = (late, none)
-none_before_by false z x more late none = none
-
-none_before_partnered : (wanted : Bool) (z : Row) (rows others : List Row) → NoneBefore z rows → NoneBefore z (partnered wanted rows others)
-none_before_partnered wanted z [] others none = tt
-none_before_partnered wanted z (x ∷ rows) others none =
-    none_before_by (beq (has_partner x (from_row x others)) wanted) z x _ none.0 (none_before_partnered wanted z rows _ none.1)
-
-ascends_by : (b : Bool) (x : Row) (more : List Row) → NoneBefore x more → Ascends more → Ascends (cond b (x ∷ more) more)
-ascends_by true x more none up = (none, up)
-ascends_by false x more none up = up
-
-pub partnered_ascends : (wanted : Bool) (rows others : List Row) → Ascends rows → Ascends (partnered wanted rows others)
-partnered_ascends wanted [] others up = tt
-partnered_ascends wanted (x ∷ rows) others up =
-    ascends_by (beq (has_partner x (from_row x others)) wanted) x _ (none_before_partnered wanted x rows _ up.0) (partnered_ascends wanted rows _ up.1)
+-- none of the rows that are kept stands oftener than in the list
+pub partnered_fewer : (wanted : Bool) (n m k : ℕ) → k ≡ count_partnered wanted n m → k ≤ n
+partnered_fewer true n m k is = omega (arith, is)
+partnered_fewer false n m k is = omega (arith, is)

@@ -1,11 +1,11 @@
 -- What the counts of rows say of set operations.
 use Rattle.std.proofs.Common.{◌≡◌, ℕ, zero, suc, ◌+◌, ◌-◌, ◌<◌, ◌≤◌, Bool, true, false, ◌&&◌, cond, List, [], ◌∷◌, ◌++◌, length, get_or, map, take, drop, refl, ap, sym, ◌∙◌, subst, arith, Result, Ok, Err}
 use Rattle.std.specs.Prelude.{min, IfOk}
-use Rattle.std.specs.List.{All, Contains, list_all, flat_map}
+use Rattle.std.specs.List.{All, list_all, flat_map}
 use Rattle.std.proofs.lemmas.Bool.{false≢true}
-use Rattle.std.proofs.lemmas.List.{map-append, take_all}
+use Rattle.std.proofs.lemmas.List.{map-append, take_all, get_or_default}
+use Rattle.std.proofs.lemmas.List.Concat.{flat_map-cons}
 use Rattle.std.proofs.lemmas.List.Elements.{All-head, All-tail}
-use denote.Ref.{Bor}
 use Rattle.sql_types.specs.Combined.{Counted, counted_none, counted_same, counted_other, CountedEach, Combined, total, least, at_most_one, combined_count}
 use Rattle.sql_types.specs.Fits.{fits, fits_row}
 use Rattle.sql_types.specs.Joined.{Row}
@@ -14,39 +14,38 @@ use Rattle.sql_types.specs.declared.kinds.SetKind.TheVariants as set
 use Rattle.sql_types.specs.declared.rows.Rows.{Rows}
 use Rattle.sql_types.specs.declared.sql_type.Named.{Named}
 use Rattle.sql_types.specs.declared.sql_type.SqlType.{SqlType}
-use Rattle.sql_types.specs.declared.value.Value.{Value}
+use Rattle.sql_types.specs.declared.value.Value.TheVariants.{Null}
 use Rattle.sql_types.proofs.TestParts.{first as left_of, second as right_of}
-use Rattle.eval_rows.specs.Counts.{shown, rows_of, is_same, count, CombinedBy, Ascends, partnered}
+use Rattle.sql_types.specs.SameValue.{same_values}
+use Rattle.key_classes.specs.Classes.{key_of}
+use Rattle.eval_rows.specs.Counts.{rows_of, count, CombinedBy, AllWhole}
 use Rattle.eval_rows.specs.Sets.{column_types, Alike, Combines}
-use Rattle.eval_rows.proofs.CountLaws.{one, one_is, told, same_itself, count_append, count_flat}
-use Rattle.eval_rows.proofs.PartnerLaws.{partnered_counts, partnered_ascends}
+use Rattle.key_classes.specs.KeyLaws.{told, itself}
+use Rattle.eval_rows.proofs.CountLaws.{one, one_is, differs_by, count_append, count_flat, counted_passes, pass_by_counts, at_most}
 use Rattle.eval_rows.proofs.FitLaws.{both, append_pass}
+use Rattle.eval_rows.proofs.JoinLaws.{take_next}
 
 -- ---- a count is how often a row stands in a list
 
-counted_by : (row other : Row) (rows : List Row) (n : ℕ) (b : Bool) → is_same row other ≡ b → Counted row rows n → Counted row (other ∷ rows) (cond b 1 0 + n)
+counted_by : (row other : Row) (rows : List Row) (n : ℕ) (b : Bool) → same_values row other ≡ b → Counted row rows n → Counted row (other ∷ rows) (cond b 1 0 + n)
 counted_by row other rows n true is counted =
     let more : suc n ≡ cond true 1 0 + n = omega arith in
     subst (Counted row (other ∷ rows)) more (counted_same (told row other is) counted)
 counted_by row other rows n false is counted =
     let more : n ≡ cond false 1 0 + n = omega arith in
-    subst (Counted row (other ∷ rows)) more (counted_other (λ same. false≢true (sym is ∙ ap (is_same row) (sym same) ∙ same_itself row)) counted)
+    subst (Counted row (other ∷ rows)) more (counted_other (λ same. false≢true (sym is ∙ ap (same_values row) (sym same) ∙ itself row)) counted)
 
 count_counted : (row : Row) (rows : List Row) → Counted row rows (count row rows)
 count_counted row [] = counted_none
-count_counted row (other ∷ rows) = counted_by row other rows (count row rows) (is_same row other) refl (count_counted row rows)
-
-differs_by : (row other : Row) (b : Bool) → is_same row other ≡ b → (row ≡ other → ⊥) → one row other ≡ 0
-differs_by row other true is differs = absurd (differs (told row other is))
-differs_by row other false is differs = one_is row other false is
+count_counted row (other ∷ rows) = counted_by row other rows (count row rows) (same_values row other) refl (count_counted row rows)
 
 counted_is : (row : Row) (rows : List Row) (n : ℕ) → Counted row rows n → n ≡ count row rows
 counted_is row [] n counted_none = refl
 counted_is row (other ∷ rows) n (counted_same {n = m} same counted) =
-    let here : one row other ≡ 1 = one_is row other true (ap (is_same row) (sym same) ∙ same_itself row) in
+    let here : one row other ≡ 1 = one_is row other true (ap (same_values row) (sym same) ∙ itself row) in
     omega (arith, here, counted_is row rows m counted)
 counted_is row (other ∷ rows) n (counted_other {n = m} differs counted) =
-    let here : one row other ≡ 0 = differs_by row other (is_same row other) refl differs in
+    let here : one row other ≡ 0 = differs_by row other (same_values row other) refl differs in
     omega (arith, here, counted_is row rows m counted)
 
 counts_are : (row : Row) (operands : List (List Row)) (counts : List ℕ) → CountedEach row operands counts → counts ≡ map (count row) operands
@@ -60,6 +59,16 @@ combined kind first others result by row n counts one each =
     subst (Counted row result) (by row ∙ ap (λ (m : ℕ). combined_count kind m (map (count row) others)) (sym (counted_is row first n one)) ∙ ap (combined_count kind n) (sym (counts_are row others counts each)))
     (count_counted row result)
 
+-- ---- the parts of a list
+
+first_pass : (p : Row → Bool) (xs ys : List Row) → list_all p (xs ++ ys) ≡ true → list_all p xs ≡ true
+first_pass p [] ys all = refl
+first_pass p (x ∷ xs) ys all = both (left_of _ _ all) (first_pass p xs ys (right_of _ _ all))
+
+rest_pass : (p : Row → Bool) (xs ys : List Row) → list_all p (xs ++ ys) ≡ true → list_all p ys ≡ true
+rest_pass p [] ys all = all
+rest_pass p (x ∷ xs) ys all = rest_pass p xs ys (right_of _ _ all)
+
 -- ---- the kinds
 
 pub one_operand_more : (n m : ℕ) (counts : List ℕ) → least n (counts ++ m ∷ []) ≡ min (least n counts) m
@@ -68,29 +77,11 @@ one_operand_more n m (k ∷ counts) = one_operand_more (min n k) m counts
 
 -- ---- the rows fit
 
-contains_by : (row other : Row) (rows : List Row) (b : Bool) → is_same row other ≡ b → 0 < cond b 1 0 + count row rows → (p : Row → Bool) → p other ≡ true → (0 < count row rows → p row ≡ true) → p row ≡ true
-contains_by row other rows true is some p here more = ap p (told row other is) ∙ here
-contains_by row other rows false is some p here more = more (omega arith)
-
-counted_passes : (p : Row → Bool) (row : Row) (rows : List Row) → list_all p rows ≡ true → 0 < count row rows → p row ≡ true
-counted_passes p row [] all some = absurd (omega arith)
-counted_passes p row (other ∷ rows) all some = contains_by row other rows (is_same row other) refl some p (left_of _ _ all) (counted_passes p row rows (right_of _ _ all))
-
-pass_by_counts : (p : Row → Bool) (rows : List Row) → ((row : Row) → 0 < count row rows → p row ≡ true) → list_all p rows ≡ true
-pass_by_counts p [] each = refl
-pass_by_counts p (row ∷ rows) each =
-    let here : one row row ≡ 1 = one_is row row true (same_itself row) in
-    both (each row (omega (arith, here))) (pass_by_counts p rows (λ other some. each other (omega arith)))
-
 least_below : (n : ℕ) (counts : List ℕ) → least n counts ≤ n
 least_below n [] = omega arith
 least_below n (m ∷ counts) =
     let more : least (min n m) counts ≤ min n m = least_below (min n m) counts in
     omega (arith, more)
-
-at_most : (n : ℕ) → at_most_one n ≤ n
-at_most zero = omega arith
-at_most (suc n) = omega arith
 
 -- a row of the result stands in an operand
 not_more : (kind : SetKind) (n : ℕ) (counts : List ℕ) → combined_count kind n counts ≤ n + total counts
@@ -131,30 +122,44 @@ all_rows_fit first (other ∷ others) alike =
 
 -- ---- rows that stand in each table
 
--- as often as in the list and in each of the tables, and in order
-pub record InEach (list : List (Bor Row)) (operands : List Rows) (left : List (Bor Row)) : Type 0 where
-  pub order : Ascends (shown left)
-  pub counts : (row : Row) → count row (shown left) ≡ least (count row (shown list)) (map (count row) (map rows_of operands))
-
-pub in_none : (list : List (Bor Row)) → Ascends (shown list) → InEach list [] list
-in_none list up = record { order = up; counts = λ row. refl }
-
 map_more : {A B : Type 0} (f : A → B) (xs : List A) (x : A) → map f (xs ++ x ∷ []) ≡ map f xs ++ f x ∷ []
 map_more f xs x = map-append f xs (x ∷ [])
 
-pub in_one_more : (list : List (Bor Row)) (operands : List Rows) (operand : Rows) (left sorted kept : List (Bor Row)) (put given : List Row) → InEach list operands left →
-    given ≡ operand.rows → ((row : Row) → count row (shown sorted) ≡ count row given) → Ascends (shown sorted) → put ≡ shown left → shown kept ≡ partnered true put (shown sorted) → InEach list (operands ++ operand ∷ []) kept
-in_one_more list operands operand left sorted kept put given before given_is sorted_counts sorted_up put_is kept_is =
-    let is : shown kept ≡ partnered true (shown left) (shown sorted) = kept_is ∙ ap (λ (z : List Row). partnered true z (shown sorted)) put_is in
-    record {
-      order = subst Ascends (sym is) (partnered_ascends true (shown left) (shown sorted) before.order);
-      counts = λ row.
-          ap (count row) is ∙ partnered_counts true row (shown left) (shown sorted) before.order sorted_up
-          ∙ ap (λ n. min n (count row (shown sorted))) (before.counts row)
-          ∙ ap (λ n. min (least (count row (shown list)) (map (count row) (map rows_of operands))) n) (sorted_counts row ∙ ap (count row) given_is)
-          ∙ sym (ap (λ z. least (count row (shown list)) z) (ap (map (count row)) (map_more rows_of operands operand) ∙ map_more (count row) (map rows_of operands) operand.rows)
-          ∙ one_operand_more (count row (shown list)) (count row operand.rows) (map (count row) (map rows_of operands)));
-    }
+-- as often as in the list and in each of the tables so far
+pub in_one_more : (row : Row) (first left kept others : List Row) (operands : List Rows) (i : ℕ) (operand : Rows) → i < length operands → operand ≡ get_or operands i operand → others ≡ operand.rows →
+    count row left ≡ least (count row first) (map (count row) (map rows_of (take i operands))) → count row kept ≡ min (count row left) (count row others) →
+    count row kept ≡ least (count row first) (map (count row) (map rows_of (take (i + 1) operands)))
+in_one_more row first left kept others operands i operand within is others_are before kept_are =
+    kept_are ∙ ap (λ n. min n (count row others)) before ∙ ap (λ n. min (least (count row first) (map (count row) (map rows_of (take i operands)))) n) (ap (count row) others_are)
+    ∙ sym (one_operand_more (count row first) (count row operand.rows) (map (count row) (map rows_of (take i operands))))
+    ∙ sym (ap (λ (z : List Rows). least (count row first) (map (count row) (map rows_of z))) (take_next operands i operand within is)
+    ∙ ap (λ z. least (count row first) z) (ap (map (count row)) (map_more rows_of (take i operands) operand) ∙ map_more (count row) (map rows_of (take i operands)) operand.rows))
+
+-- the rows of one operand pass where those of all pass
+pub operand_passes : (p : Row → Bool) (operands : List Rows) (i : ℕ) (operand : Rows) → i < length operands → operand ≡ get_or operands i operand → list_all p (flat_map rows_of operands) ≡ true → list_all p operand.rows ≡ true
+operand_passes p [] i operand within is all = absurd (omega arith)
+operand_passes p (o ∷ operands) zero operand within is all =
+    ap (λ (z : Rows). list_all p z.rows) is ∙ first_pass p o.rows (flat_map rows_of operands) (ap (list_all p) (sym (flat_map-cons rows_of o operands)) ∙ all)
+operand_passes p (o ∷ operands) (suc i) operand within is all =
+    operand_passes p operands i operand (omega arith) is (rest_pass p o.rows (flat_map rows_of operands) (ap (list_all p) (sym (flat_map-cons rows_of o operands)) ∙ all))
+
+-- ---- all columns
+
+pub column_more : (columns : List ℕ) (row : Row) (column : ℕ) → key_of columns row ≡ take column row → column < length row → key_of (columns ++ column ∷ []) row ≡ take (column + 1) row
+column_more columns row column so_far within =
+    map-append (λ (c : ℕ). get_or row c Null) columns (column ∷ []) ∙ ap (λ (z : Row). z ++ get_or row column Null ∷ []) so_far
+    ∙ sym (take_next row column (get_or row column Null) within (get_or_default row column Null (get_or row column Null) within))
+
+fits_long : (columns : List (Named SqlType)) (row : Row) → fits_row columns row ≡ true → length row ≡ length columns
+fits_long [] [] fit = refl
+fits_long [] (x ∷ row) fit = absurd (false≢true fit)
+fits_long (c ∷ columns) [] fit = absurd (false≢true fit)
+fits_long (c ∷ columns) (x ∷ row) fit = omega (arith, fits_long columns row (right_of _ _ fit))
+
+pub all_whole : (columns : List (Named SqlType)) (numbers : List ℕ) (rows : List Row) → ((row : Row) → length row ≡ length columns → key_of numbers row ≡ row) → list_all (fits_row columns) rows ≡ true → AllWhole numbers rows
+all_whole columns numbers [] each all = refl
+all_whole columns numbers (row ∷ rows) each all =
+    both (ap (λ (z : Row). same_values z row) (each row (fits_long columns row (left_of _ _ all))) ∙ itself row) (all_whole columns numbers rows each (right_of _ _ all))
 
 -- ---- each kind
 
@@ -163,16 +168,10 @@ pub all_counts : (first list all : List Row) (others : List Rows) → list ≡ f
 all_counts first list all others first_is all_is row =
     ap (count row) (all_is ∙ ap (λ z. z ++ flat_map rows_of others) first_is) ∙ count_append row first (flat_map rows_of others) ∙ ap (λ n. count row first + n) (count_flat rows_of row others)
 
-pub once_of_all : (first list all ordered left : List Row) (others : List Rows) → list ≡ first → all ≡ list ++ flat_map rows_of others → ((row : Row) → count row ordered ≡ count row all) →
-    ((row : Row) → count row left ≡ at_most_one (count row ordered)) → (row : Row) → count row left ≡ at_most_one (count row first + total (map (count row) (map rows_of others)))
-once_of_all first list all ordered left others first_is all_is ordered_counts left_counts row =
-    left_counts row ∙ ap at_most_one (ordered_counts row ∙ all_counts first list all others first_is all_is row)
-
-pub without_counts : (list others left put given all none : List Row) (operands : List Rows) → put ≡ list → given ≡ others → left ≡ partnered false put given → Ascends list → Ascends others →
-    ((row : Row) → count row others ≡ count row all) → all ≡ none ++ flat_map rows_of operands → none ≡ [] → (row : Row) → count row left ≡ count row list - total (map (count row) (map rows_of operands))
-without_counts list others left put given all none operands put_is given_is left_is up beside others_counts all_is none_is row =
-    ap (count row) (left_is ∙ ap (λ (z : List Row). partnered false z given) put_is ∙ ap (partnered false list) given_is) ∙ partnered_counts false row list others up beside
-    ∙ ap (λ n. count row list - n) (others_counts row ∙ ap (count row) (all_is ∙ ap (λ z. z ++ flat_map rows_of operands) none_is) ∙ count_flat rows_of row operands)
+pub once_of_all : (first list all given left : List Row) (others : List Rows) → list ≡ first → all ≡ list ++ flat_map rows_of others → given ≡ all → ((row : Row) → count row left ≡ at_most_one (count row given)) → (row : Row) →
+    count row left ≡ at_most_one (count row first + total (map (count row) (map rows_of others)))
+once_of_all first list all given left others first_is all_is given_is left_counts row =
+    left_counts row ∙ ap at_most_one (ap (count row) given_is ∙ all_counts first list all others first_is all_is row)
 
 pub if_ok : {A E : Type 0} {P Q : A → Type 0} (r : Result A E) → ((x : A) → P x → Q x) → IfOk r P → IfOk r Q
 if_ok (Ok x) step all = step x all
@@ -206,3 +205,17 @@ set_fits kind (operand ∷ others) first columns rows list some is alike columns
     let same : columns ≡ operand.columns = columns_are ∙ ap (λ (z : Rows). z.columns) is in
     ap (λ (z : List (Named SqlType)). list_all (fits_row z) rows) same ∙ ap (list_all (fits_row operand.columns)) rows_are
     ∙ result_passes (fits_row operand.columns) kind operand.rows rows_of others list (by_others kind first operand others list is by) operand.fitting (all_rows_fit operand others alike)
+
+-- these columns are all of each operand's rows
+pub first_whole : (first : Rows) (numbers : List ℕ) (width : ℕ) → width ≡ length first.columns → ((row : Row) → length row ≡ width → key_of numbers row ≡ row) → AllWhole numbers first.rows
+first_whole first numbers width width_is each = all_whole first.columns numbers first.rows (λ row long. each row (long ∙ sym width_is)) first.fitting
+
+others_by : (first operand : Rows) (others : List Rows) (numbers : List ℕ) (width : ℕ) → first ≡ operand → width ≡ length first.columns → Alike (operand ∷ others) → ((row : Row) → length row ≡ width → key_of numbers row ≡ row) → AllWhole numbers (flat_map rows_of others)
+others_by first operand others numbers width is width_is alike each =
+    all_whole operand.columns numbers (flat_map rows_of others) (λ row long. each row (long ∙ ap (λ (z : Rows). length z.columns) (sym is) ∙ sym width_is)) (all_rows_fit operand others alike)
+
+pub others_whole : (operands : List Rows) (first : Rows) (numbers : List ℕ) (width : ℕ) → 0 < length operands → first ≡ get_or operands 0 first → width ≡ length first.columns → Alike operands → ((row : Row) → length row ≡ width → key_of numbers row ≡ row) →
+    AllWhole numbers (flat_map rows_of (behind_first operands))
+others_whole [] first numbers width some is width_is alike each = absurd (omega arith)
+others_whole (operand ∷ others) first numbers width some is width_is alike each =
+    subst (λ (z : List Rows). AllWhole numbers (flat_map rows_of z)) (sym (behind_is operand others)) (others_by first operand others numbers width is width_is alike each)

@@ -1,14 +1,10 @@
 -- The pairs of a join by equal keys.
-use Rattle.std.specs.Prelude.{◌≡◌, ℕ, zero, suc, ◌++◌, Bool, true, false, List, [], ◌∷◌, map, slice_index_or, Option, None, Some}
-use Rattle.std.specs.List.{filter}
-use Rattle.std.specs.List.Sorted.{IsSortedBy, IsStableBy}
-use Rattle.std.specs.Ordering.{is_lt, is_eq}
+use Rattle.std.specs.Prelude.{◌≡◌, ℕ, suc, Bool, true, false, List, [], ◌∷◌, map, slice_index_or, Option, None, Some}
 use Rattle.sql_types.specs.declared.value.Value.{Value}
 use Rattle.sql_types.specs.declared.value.Value.TheVariants.{Null}
 use Rattle.sql_types.specs.Joined.{Row, Pairs}
-use Rattle.sql_types.specs.Parted.{numbers_from}
 use Rattle.sql_types.specs.Same.{equal}
-use Rattle.sql_aggregates.specs.Identity.{identity_order}
+use Rattle.eval_rows.specs.ByClass.{by_class}
 
 -- the value in this column; one that isn't there counts as NULL
 abbrev pub key_at : ℕ → Row → Value
@@ -35,19 +31,7 @@ kept_from n [] = []
 kept_from n (true ∷ kept) = n ∷ kept_from (suc n) kept
 kept_from n (false ∷ kept) = kept_from (suc n) kept
 
--- the key of the row of this number
-abbrev pub key_of : ℕ → List Row → ℕ → Value
-key_of column rights number = key_at column (slice_index_or rights number [])
-
--- the first key comes before the second
-abbrev pub key_before : ℕ → List Row → ℕ → ℕ → Bool
-key_before column rights a b = is_lt (identity_order (key_of column rights a) (key_of column rights b))
-
--- the numbers of all rows in the order of their keys, and within a key in their own order
-pub record ByKey (column : ℕ) (rights : List Row) (numbers : List ℕ) : Type 0 where
-  pub sorted : IsSortedBy (key_before column rights) numbers
-  pub stable : IsStableBy (key_before column rights) (numbers_from 0 rights) numbers
-
--- of these numbers those of the rows with this key
-abbrev pub with_key : ℕ → List Row → Value → List ℕ → List ℕ
-with_key column rights key = filter (λ number. is_eq (identity_order (key_of column rights number) key))
+-- What is kept for each value of a column, by the values that are known and what is kept for each of them: the numbers of
+-- the rows whose key is equal to the value.
+abbrev pub Indexes : ℕ → List Row → List Row → List (List ℕ) → Type 0
+Indexes column rights values numbers = (key : Value) → by_class [] values numbers (key ∷ []) ≡ kept_from 0 (equal_to key column rights)

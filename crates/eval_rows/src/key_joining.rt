@@ -6,14 +6,15 @@ ghost use Rattle.eval_rows.specs.EqualKeys.{equal_pairs};
 use crate::join_parts::{
     both_columns, met_numbers, none_met, note_numbers, padded_right, rows_from_right,
 };
-use crate::key_order::{by_key, row_partners};
+use crate::key_index::KeyIndex;
 use sql_types::{Items, JoinKind, Rows, Values};
 use std::alloc::{AllocError, Global};
 
 /// The join of two tables by the equality of two columns, which is not a CROSS JOIN: it keeps the pairs whose keys are
 /// equal, so that a key with a NULL at any depth meets none. The columns are those of the left and then those of the right;
-/// LEFT, RIGHT and FULL add the rows that meet none, with NULL in the other side's columns. It sorts the right rows by their
-/// keys and looks each left key up, in n log n and what the result takes. Running out of memory is the only error.
+/// LEFT, RIGHT and FULL add the rows that meet none, with NULL in the other side's columns. The rows stand in the order of
+/// the left rows, and under one left row in that of the right rows; right rows that meet none come last. It hashes the keys,
+/// and takes time linear in the rows of both sides and of the result, on average. Running out of memory is the only error.
 pub fn join_equal(
     alloc: Global,
     kind: JoinKind,
@@ -44,12 +45,12 @@ fn equal_rows(
     ensures { IfOk result (λ rows. Joined kind (length left.now.columns) (length right.now.columns) left.now.rows right.now.rows (equal_pairs left_key right_key left.now.rows right.now.rows) rows) }
 {
     let rights = right.rows.as_slice();
-    let numbers = by_key(alloc, right_key, rights)?;
+    let index = KeyIndex::of(alloc, &right_key, rights)?;
     let mut had = none_met(alloc, rights.len())?;
     let mut rows = Items::new(alloc);
     for item in left.rows.as_slice() {
         let row = item.as_slice();
-        let met = row_partners(row, left_key, right_key, rights, numbers.as_slice());
+        let met = index.numbers_of(left_key, row);
         let own = met_numbers(alloc, row, rights, met)?;
         rows.append(padded_right(alloc, kind, right.columns.len(), row, own)?)?;
         had = note_numbers(had, met);

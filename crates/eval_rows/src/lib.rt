@@ -4,12 +4,13 @@
 pub mod cutting;
 mod join_parts;
 pub mod joining;
+mod key_index;
 pub mod key_joining;
-mod key_order;
 mod list_parts;
 mod set_parts;
 pub mod sets;
 pub mod sorting;
+mod tally;
 #[cfg(test)]
 mod tests;
 

@@ -1,7 +1,13 @@
 //! The kernels over rows of two INT64 columns. In a text `N` stands for NULL, and `|` ends a row.
+ghost use Rattle.std.specs.Prelude.{◌≡◌, ◌∷◌, [], IfOk, map};
+ghost use Rattle.sql_types.specs.declared.sql_type.SqlType.TheVariants.{Int64};
+ghost use Rattle.eval_rows.specs.Sets.{column_types};
+ghost use Rattle.sql_types.specs.Sorting as sorting;
+
 use crate::*;
 use sql_types::{
-    CallFault, FaultKind, Items, JoinKind, Named, Rows, SqlType, Value, Values, equal, row_fits,
+    CallFault, Column, Columns, FaultKind, Items, JoinKind, Named, Rows, SetKind, SortItem,
+    SortItems, SqlType, Value, Values, equal, orderable, row_fits,
 };
 use std::alloc::{AllocError, Global};
 use std::test::Fail;
@@ -114,21 +120,32 @@ fn equal_text(
     text_of(alloc, &joined)
 }
 
-/// Each of a thousand keys meets its own.
+/// Each of a hundred thousand keys meets its own, where the two tables stand in opposite orders.
 #[test]
 fn joins_many(rt: HostRuntime) -> Result<(), Fail> {
     let alloc = rt.alloc();
-    let mut pairs = Vec::new(alloc);
-    for key in 0..1_000_i64 {
-        pairs.push((Some(key), Some(0)))?;
-    }
-    let rows = rows_of(alloc, &pairs)?;
-    if rows.columns.is_empty() {
+    let left = many_rows(alloc, false)?;
+    let right = many_rows(alloc, true)?;
+    if left.columns.is_empty() || right.columns.is_empty() {
         return Ok(());
     }
-    let joined = join_equal(alloc, JoinKind::Full, &rows, &rows, 0, 0)?;
-    assert_eq!(rt; joined.rows.len(), 1_000);
+    let joined = join_equal(alloc, JoinKind::Inner, &left, &right, 0, 0)?;
+    assert_eq!(rt; joined.rows.len(), 100_000);
     Ok(())
+}
+
+/// A row for each of the keys from 1 to 100,000, up or down.
+fn many_rows(alloc: Global, down: bool) -> Result<Rows, AllocError> {
+    let mut pairs = Vec::new(alloc);
+    for number in 1..100_001_i64 {
+        let key = if down {
+            100_001_i64.saturating_sub(number)
+        } else {
+            number
+        };
+        pairs.push((Some(key), Some(0)))?;
+    }
+    rows_of(alloc, &pairs)
 }
 
 /// Whether the first values are equal. A 9 on the right is a fault.
@@ -155,6 +172,46 @@ fn faults_of_a_test(rt: HostRuntime) -> Result<(), Fail> {
         joined_text(alloc, JoinKind::Inner, &none, &right)?.as_str(),
         ""
     );
+    Ok(())
+}
+
+const ONE: [Pair; 5] = [
+    (Some(1), Some(1)),
+    (Some(1), Some(1)),
+    (Some(2), Some(2)),
+    (None, Some(3)),
+    (None, Some(3)),
+];
+
+const OTHER: [Pair; 5] = [
+    (Some(1), Some(1)),
+    (Some(1), Some(1)),
+    (Some(1), Some(1)),
+    (None, Some(3)),
+    (Some(4), None),
+];
+
+/// A set operation over the two. NULL is the same as NULL.
+const COMBINED: [(SetKind, &str); 6] = [
+    (
+        SetKind::UnionAll,
+        "1 1|1 1|2 2|N 3|N 3|1 1|1 1|1 1|N 3|4 N|",
+    ),
+    (SetKind::UnionDistinct, "1 1|2 2|N 3|4 N|"),
+    (SetKind::IntersectAll, "1 1|1 1|N 3|"),
+    (SetKind::IntersectDistinct, "1 1|N 3|"),
+    (SetKind::ExceptAll, "2 2|N 3|"),
+    (SetKind::ExceptDistinct, "2 2|"),
+];
+
+#[test]
+fn combines(rt: HostRuntime) -> Result<(), Fail> {
+    let alloc = rt.alloc();
+    let operands = [rows_of(alloc, &ONE)?, rows_of(alloc, &OTHER)?];
+    for (kind, want) in COMBINED {
+        let combined = set_rows(alloc, kind, &operands)?;
+        assert_eq!(rt; text_of(alloc, &combined)?.as_str(), want);
+    }
     Ok(())
 }
 
@@ -197,18 +254,109 @@ fn cuts(rt: HostRuntime) -> Result<(), Fail> {
     Ok(())
 }
 
+/// The column of an item, whether it is DESC, and whether NULL comes first.
+type Item = (usize, bool, bool);
+
+/// The five rows in an order by some items. NULL comes first in ASC and last in DESC, where nothing else is written.
+const SORTED: [(&[Item], &str); 7] = [
+    (
+        &[(0, false, true), (1, false, true)],
+        "N 2|1 1|1 3|2 1|9223372036854775807 N|",
+    ),
+    (
+        &[(0, true, false), (1, false, true)],
+        "9223372036854775807 N|2 1|1 1|1 3|N 2|",
+    ),
+    (
+        &[(0, false, true), (1, true, false)],
+        "N 2|1 3|1 1|2 1|9223372036854775807 N|",
+    ),
+    (
+        &[(1, false, true), (0, false, true)],
+        "9223372036854775807 N|1 1|2 1|N 2|1 3|",
+    ),
+    (
+        &[(1, true, false), (0, true, false)],
+        "1 3|N 2|2 1|1 1|9223372036854775807 N|",
+    ),
+    (
+        &[(0, false, false), (1, false, true)],
+        "1 1|1 3|2 1|9223372036854775807 N|N 2|",
+    ),
+    (
+        &[(0, true, true), (1, false, true)],
+        "N 2|9223372036854775807 N|2 1|1 1|1 3|",
+    ),
+];
+
+const TIED: [Pair; 4] = [
+    (Some(2), Some(7)),
+    (Some(1), None),
+    (Some(2), Some(7)),
+    (Some(1), None),
+];
+
+#[test]
+fn sorts(rt: HostRuntime) -> Result<(), Fail> {
+    let alloc = rt.alloc();
+    for (items, want) in SORTED {
+        assert_eq!(rt; sorted_text(alloc, &UNSORTED, items)?.as_str(), want);
+    }
+    // rows that tie all stay
+    assert_eq!(rt;
+        sorted_text(alloc, &TIED, &[(0, false, true)])?.as_str(),
+        "1 N|1 N|2 7|2 7|"
+    );
+    Ok(())
+}
+
+fn sorted_text(alloc: Global, pairs: &[Pair], items: &[Item]) -> Result<String, AllocError> {
+    let rows = rows_of(alloc, pairs)?;
+    let items = items_of(alloc, items)?;
+    if !orders(&rows.columns, &items) {
+        return String::from_str(alloc, "?");
+    }
+    text_of(alloc, &sort_rows(alloc, rows, &items)?)
+}
+
+fn items_of(alloc: Global, list: &[Item]) -> Result<SortItems, AllocError> {
+    let mut items = Items::new(alloc);
+    for (place, descending, nulls_first) in list {
+        items.push(SortItem {
+            place: *place,
+            descending: *descending,
+            nulls_first: *nulls_first,
+        })?;
+    }
+    Ok(items)
+}
+
+/// Whether each item goes by a column of an orderable type.
+fn orders(columns: &Columns, items: &SortItems) -> bool
+    ensures { result ≡ sorting.orders_columns columns.now items.now }
+{
+    for item in items.as_slice() {
+        if !orders_at(columns.as_slice(), item.place) {
+            return false;
+        }
+    }
+    true
+}
+
+fn orders_at(columns: &[Column], place: usize) -> bool
+    ensures { result ≡ sorting.orders_column columns.now place }
+{
+    if place >= columns.len() {
+        return true;
+    }
+    orderable(&columns[place].ty)
+}
+
 /// A table of two INT64 columns.
-fn rows_of(alloc: Global, pairs: &[Pair]) -> Result<Rows, AllocError> {
-    let mut columns = Items::new(alloc);
-    columns.push(Named {
-        name: None,
-        ty: SqlType::Int64,
-    })?;
-    columns.push(Named {
-        name: None,
-        ty: SqlType::Int64,
-    })?;
-    let mut rows = Rows::start(alloc, columns);
+fn rows_of(alloc: Global, pairs: &[Pair]) -> Result<Rows, AllocError>
+    ensures { IfOk result (λ rows. column_types rows ≡ Int64 ∷ Int64 ∷ []) }
+{
+    let mut rows = Rows::start(alloc, pair_columns(alloc)?);
     for (first, second) in pairs {
         let mut row = Items::new(alloc);
         row.push(number(*first))?;
@@ -218,7 +366,24 @@ fn rows_of(alloc: Global, pairs: &[Pair]) -> Result<Rows, AllocError> {
     Ok(rows)
 }
 
-fn add_fitting(rows: &mut Rows, row: Values) -> Result<(), AllocError> {
+fn pair_columns(alloc: Global) -> Result<Columns, AllocError>
+    ensures { IfOk result (λ columns. map (λ c. c.ty) columns ≡ Int64 ∷ Int64 ∷ []) }
+{
+    let mut columns = Items::new(alloc);
+    columns.push(Named {
+        name: None,
+        ty: SqlType::Int64,
+    })?;
+    columns.push(Named {
+        name: None,
+        ty: SqlType::Int64,
+    })?;
+    Ok(columns)
+}
+
+fn add_fitting(rows: &mut Rows, row: Values) -> Result<(), AllocError>
+    ensures { rows.new.columns ≡ rows.old.columns }
+{
     if row_fits(&row, &rows.columns) {
         rows.add(row)?;
     }

@@ -4,4 +4,5 @@ pub mod ChoosingLaws
 pub mod AddableLaws
 pub mod MeansLaws
 pub mod TextLaws
+pub mod AnswerLaws
 mod TestLaws

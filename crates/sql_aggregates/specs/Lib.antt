@@ -4,3 +4,4 @@ pub mod Calls
 pub mod Identity
 pub mod Accumulated
 pub mod Sortable
+pub mod AnswerTypes

@@ -2,6 +2,7 @@
 #![tactic(auto)]
 
 pub mod accumulator;
+pub mod answer_types;
 mod answers;
 mod arguments;
 pub mod call;
@@ -15,5 +16,6 @@ mod texts;
 mod truths;
 
 pub use accumulator::Accumulator;
+pub use answer_types::answer_type;
 pub use call::{AggCall, AggName};
 pub use identity::{identity_order, identity_order_of_rows};

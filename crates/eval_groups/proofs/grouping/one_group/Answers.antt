@@ -1,5 +1,5 @@
 use Rattle.std.proofs.Common.{arith}
-use Rattle.eval_groups.proofs.RunLaws.{numbers_one_more}
+use Rattle.eval_groups.proofs.GroupLaws.{numbers_one_more}
 use Rattle.eval_groups.proofs.grouping.one_group.Goals as goal
 
 pub loop-number-preserved : goal.loop-number-preserved

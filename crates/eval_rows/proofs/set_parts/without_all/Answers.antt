@@ -1,12 +1,24 @@
-use Rattle.std.proofs.Common.{ap}
-use Rattle.eval_rows.specs.Counts.{shown}
-use Rattle.eval_rows.proofs.SetLaws.{without_counts, if_ok}
+use Rattle.std.proofs.Common.{◌++◌, ◌-◌, ◌∙◌, ap}
+use Rattle.std.specs.List.{flat_map, list_all}
+use Rattle.eval_rows.specs.Counts.{shown, rows_of, count, is_whole}
+use Rattle.eval_rows.proofs.CountLaws.{count_flat}
+use Rattle.eval_rows.proofs.SetLaws.{if_ok}
 use Rattle.eval_rows.proofs.set_parts.without_all.Goals as goal
+
+pub partnered-requires : goal.partnered-requires
+partnered-requires c =
+    let whole = is_whole c.args.columns.now in
+    record {
+      list = c.requires.list;
+      others = ap (λ z. list_all whole (shown z)) c.as_slice.ensures.value ∙ ap (list_all whole) c.in_ok-others.ensures
+          ∙ ap (λ z. list_all whole (shown z ++ flat_map rows_of c.args.operands.now)) c.new.ensures.items ∙ c.requires.operands;
+    }
 
 pub returns : goal.returns
 returns c =
     if_ok c.partnered.result
-    (λ left is. without_counts (shown c.args.list.items) (shown c.in_order-others.result.items) (shown left.items) (shown c.as_slice.result.now) (shown c.as_slice-2.result.now) (shown c.in_ok-with_all.field-0.items)
-    (shown c.new.result.items) c.args.operands.now (ap shown c.as_slice.ensures.value) (ap shown c.as_slice-2.ensures.value) is c.requires c.in_order-others.ensures.order c.in_order-others.ensures.counts c.in_ok-with_all.ensures
-    (ap shown c.new.ensures.items))
-    c.partnered.ensures
+    (λ left counts row. counts row
+    ∙ ap (λ n. count row (shown c.args.list.now) - n)
+    (ap (λ z. count row (shown z)) c.as_slice.ensures.value ∙ ap (count row) c.in_ok-others.ensures
+    ∙ ap (λ z. count row (shown z ++ flat_map rows_of c.args.operands.now)) c.new.ensures.items ∙ count_flat rows_of row c.args.operands.now))
+    c.partnered.ensures.counts

@@ -1,0 +1,3 @@
+pub mod ClassLaws
+mod FedLaws
+mod IndexLaws

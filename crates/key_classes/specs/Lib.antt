@@ -1,0 +1,4 @@
+pub mod Classes
+pub mod Fed
+pub mod Keys
+pub mod KeyLaws
