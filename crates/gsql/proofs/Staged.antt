@@ -1,5 +1,5 @@
 -- What the stages answer, and how it is told.
-use Rattle.std.proofs.Common.{◌≡◌, ℕ, List, [], Option, None, Some, Result, Ok, Err, IfOk, ap, ◌∙◌, subst, sym, refl, inl, inr}
+use Rattle.std.proofs.Common.{◌≡◌, ℕ, ◌≤◌, List, [], length, Option, None, Some, Result, Ok, Err, IfOk, ap, ◌∙◌, subst, sym, refl, inl, inr}
 use Rattle.sql_types.specs.declared.sql_type.Named.{Named}
 use Rattle.sql_types.specs.declared.sql_type.SqlType.{SqlType}
 use Rattle.sql_types.specs.declared.rows.Rows.{Rows}
@@ -11,13 +11,15 @@ use Rattle.small_query.specs.Forms.{SmallOf, Refused}
 use Rattle.sql_ast.specs.declared.refusal.Refusal.{Refusal}
 use Rattle.sql_ast.specs.declared.refusal.Refusal.TheVariants as refused
 use Rattle.small_run.specs.Plans.{one}
+use Rattle.gsql_io.specs.Whole.{IsWholeOf}
+use Rattle.gsql.specs.declared.status.LimitName.{LimitName}
 use Rattle.gsql.specs.declared.stop.Stop.{Stop}
-use Rattle.gsql.specs.declared.stop.Stop.TheVariants.{Unread, OtherForm, Limit, ReadFault, OutOfMemory}
+use Rattle.gsql.specs.declared.stop.Stop.TheVariants.{Unread, OtherForm, BadTable, Limit, ReadFault, OutOfMemory}
 use Rattle.gsql.specs.declared.status.Status.{Status}
 use Rattle.gsql.specs.declared.status.Status.TheVariants as status
 use Rattle.gsql.specs.Counted.{Counted}
 use Rattle.gsql.specs.Report.{Inside, Outside, Report, Staged, Wrote, Ran}
-use Rattle.gsql.specs.Stages.{CatalogStage, NoQuery}
+use Rattle.gsql.specs.Stages.{CatalogStage, NoQuery, OnTold, Stage, Within}
 use Rattle.gsql.specs.Told.{Tells}
 use Rattle.gsql.specs.Words.{asked}
 
@@ -30,6 +32,7 @@ ran words inside output error printed answer out err same report first second = 
     whole (status.Done tree) r = (out, err, r, first, second)
     whole (status.Refused rule place) r = (out, err, r, first, second)
     whole (status.Usage kind) r = (out, err, r, first, second)
+    whole (status.BadTable table row field) r = (out, err, r, first, second)
     whole (status.Limit name) r = (out, err, r, first, second)
     whole (status.ReadFault file) r = (out, err, r, first, second)
     whole status.WriteFault r = absurd r
@@ -40,12 +43,12 @@ abbrev pub refuses : (A : Type 0) {E : Type 0} → E → Result A E
 refuses A e = Err e
 
 -- the one query of these tokens has no type
-pub no_query : (table : TableDef) (tokens : List Token) (query : Query) → ((p q : Query) → SmallOf tokens p → SmallOf tokens q → p ≡ q) → SmallOf tokens query →
+pub no_query : (table : TableDef) (tokens : List Token) (query : Query) → ((p q : Query) → SmallOf tokens p → SmallOf tokens q → p ≡ q) → SmallOf tokens query → Within query →
     (broken : ℕ × ℕ) → TypeQuery (one table) query nothing_in_sight ≡ Err broken → NoQuery table tokens
-no_query table tokens query once small broken untyped other columns also typed =
+no_query table tokens query once small within broken untyped other also =
     let same : other ≡ query = once other query also small in
     let same_type : TypeQuery (one table) other nothing_in_sight ≡ TypeQuery (one table) query nothing_in_sight = ap (λ q. TypeQuery (one table) q nothing_in_sight) same in
-    apart (sym typed ∙ same_type ∙ untyped)
+    (subst Within (sym same) within, λ columns typed. apart (sym typed ∙ same_type ∙ untyped))
   where
     apart : {columns : List (Named SqlType)} {broken : ℕ × ℕ} → Ok columns ≡ Err broken → ⊥
     apart e = cc
@@ -61,6 +64,7 @@ reported words inside catalog query answer asks stage counted ending out err tel
     status_of (Ok rows) = status.Done []
     status_of (Err (Unread place)) = status.Refused 1 place
     status_of (Err OtherForm) = status.Refused 2 0
+    status_of (Err (BadTable row field)) = status.BadTable 0 row field
     status_of (Err (Limit name)) = status.Limit name
     status_of (Err (ReadFault file)) = status.ReadFault file
     status_of (Err OutOfMemory) = status.OutOfMemory
@@ -69,6 +73,7 @@ reported words inside catalog query answer asks stage counted ending out err tel
     ending_of (Ok rows) t = t.0
     ending_of (Err (Unread place)) t = t.0
     ending_of (Err OtherForm) t = t.0
+    ending_of (Err (BadTable row field)) t = t.0
     ending_of (Err (Limit name)) t = t.0
     ending_of (Err (ReadFault file)) t = t.0
     ending_of (Err OutOfMemory) t = t.0
@@ -77,6 +82,7 @@ reported words inside catalog query answer asks stage counted ending out err tel
     told (Ok rows) s n t = (rows, s, refl, t.1, t.2, n)
     told (Err (Unread place)) s n t = (inl (refl, s), t.1, t.2, n)
     told (Err OtherForm) s n t = (inr (refl, refl, s), t.1, t.2, n)
+    told (Err (BadTable row field)) s n t = (refl, s, t.1, t.2, n)
     told (Err (Limit name)) s n t = (s, t.1, t.2, n)
     told (Err (ReadFault file)) s n t = (s, n.0, n.1, t.1, t.2)
     told (Err OutOfMemory) s n t = (t.1, t.2)
@@ -88,3 +94,19 @@ if_ok (Err e) more held = held
 -- a refusal by a rule says that there is no small query
 pub none_refused : (tokens : List Token) (refusal : Refusal) (rule place : ℕ) → refusal ≡ refused.Rule rule place → Refused (SmallOf tokens) refusal → (query : Query) → SmallOf tokens query → ⊥
 none_refused tokens refusal rule place is said query small = (subst (λ r. Refused (SmallOf tokens) r) is said).2 query small
+
+-- what is said of these bytes is said of the file whose whole content they are
+pub on_told : (content : Option (List ℕ)) (bytes : List ℕ) → IsWholeOf content bytes → (P : List ℕ → Type 0) → P bytes → OnTold content P
+on_told None bytes whole P held = (bytes, held)
+on_told (Some content) bytes whole P held = subst P whole held
+
+-- a file that was read within its limit is answered by what its bytes say
+pub staged : (limit : ℕ) (limited : LimitName) (file : ℕ) (name : List ℕ) (content : List ℕ → Option (List ℕ)) (begun : Option (List ℕ)) (Said : List ℕ → Result Rows Stop → Type 0)
+    (bytes : List ℕ) → IsWholeOf (content name) bytes → length bytes ≤ limit → (answer : Result Rows Stop) → Said bytes answer → Stage limit limited file name content begun Said answer
+staged limit limited file name content begun Said bytes whole within (Ok rows) said = on_told (content name) bytes whole (λ b. (length b ≤ limit) × Said b (Ok rows)) (within, said)
+staged limit limited file name content begun Said bytes whole within (Err (Unread place)) said = on_told (content name) bytes whole (λ b. (length b ≤ limit) × Said b (Err (Unread place))) (within, said)
+staged limit limited file name content begun Said bytes whole within (Err OtherForm) said = on_told (content name) bytes whole (λ b. (length b ≤ limit) × Said b (Err OtherForm)) (within, said)
+staged limit limited file name content begun Said bytes whole within (Err (BadTable row field)) said = on_told (content name) bytes whole (λ b. (length b ≤ limit) × Said b (Err (BadTable row field))) (within, said)
+staged limit limited file name content begun Said bytes whole within (Err (Limit exceeded)) said = inr (on_told (content name) bytes whole (λ b. (length b ≤ limit) × Said b (Err (Limit exceeded))) (within, said))
+staged limit limited file name content begun Said bytes whole within (Err (ReadFault faulty)) said = inr (on_told (content name) bytes whole (λ b. (length b ≤ limit) × Said b (Err (ReadFault faulty))) (within, said))
+staged limit limited file name content begun Said bytes whole within (Err OutOfMemory) said = tt

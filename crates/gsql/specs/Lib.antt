@@ -2,6 +2,7 @@ pub mod Words
 pub mod Limits
 pub mod Counted
 pub mod Stages
+pub mod Measured
 pub mod Parts
 pub mod Report
 pub mod Told

@@ -25,6 +25,13 @@ query_bytes = 1048576
 abbrev pub table_bytes : ℕ
 table_bytes = 67108864
 
+-- the depth of a query, and its weight
+abbrev pub deep : ℕ
+deep = 400
+
+abbrev pub heavy : ℕ
+heavy = 200000
+
 -- brackets that are open at one token
 abbrev pub nested : ℕ
 nested = 200

@@ -38,6 +38,9 @@ pub record Outside : Type 0 where
 abbrev pub refused_line : ℕ → ℕ → List ℕ
 refused_line rule place = codes "REFUSED " ++ decimal rule ++ codes " " ++ decimal place ++ 10 ∷ []
 
+abbrev pub bad_table_line : ℕ → ℕ → ℕ → List ℕ
+bad_table_line table row field = codes "BADTABLE " ++ decimal table ++ codes " " ++ decimal row ++ codes " " ++ decimal field ++ 10 ∷ []
+
 abbrev pub usage_line : List ℕ
 usage_line = codes "USAGE Words" ++ 10 ∷ []
 
@@ -60,10 +63,13 @@ abbrev pub Report : List (List ℕ) → Inside → Status → List ℕ → List 
 -- the rows of the answer
 Report words inside (status.Done tree) out err =
     (answer : Rows) × Staged (asked words) inside (Ok answer) × (tree ≡ []) × (out ≡ RowsText answer.columns answer.rows) × (err ≡ []) × (inside.after ≡ inside.before)
--- a query without tokens is rule 1 at its place; another form of catalog, query or table file is rule 2
+-- a query without tokens is rule 1 at its place; another form of catalog or query is rule 2
 Report words inside (status.Refused rule place) out err =
     (((rule ≡ 1) × Staged (asked words) inside (Err (stop.Unread place))) ⊎ ((rule ≡ 2) × (place ≡ 0) × Staged (asked words) inside (Err stop.OtherForm)))
     × (out ≡ []) × (err ≡ refused_line rule place) × (inside.after ≡ inside.before)
+-- a faulty cell of the table, which is number 0
+Report words inside (status.BadTable table row field) out err =
+    (table ≡ 0) × Staged (asked words) inside (Err (stop.BadTable row field)) × (out ≡ []) × (err ≡ bad_table_line table row field) × (inside.after ≡ inside.before)
 -- a file or a text above a limit
 Report words inside (status.Limit name) out err =
     Staged (asked words) inside (Err (stop.Limit name)) × (out ≡ []) × (err ≡ limit_line name) × (inside.after ≡ inside.before)

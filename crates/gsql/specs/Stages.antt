@@ -11,15 +11,17 @@ use Rattle.sql_rules.specs.Meaning.{Permits}
 use Rattle.small_catalog.specs.Catalogs.{catalog_of}
 use Rattle.small_query.specs.Forms.{SmallOf}
 use Rattle.sql_ast.specs.declared.token.Token.{Token}
+use Rattle.sql_ast.specs.Depths.{Depth}
 use Rattle.sql_ast.specs.Nest.{nest}
 use Rattle.sql_ast.specs.Tokens.{TokensOf}
+use Rattle.sql_ast.specs.Weights.{Weight}
 use Rattle.csv_tables.specs.Tables.{TableOf}
 use Rattle.small_run.specs.Plans.{one}
 use Rattle.gsql.specs.declared.stop.Stop.{Stop}
-use Rattle.gsql.specs.declared.stop.Stop.TheVariants.{Unread, OtherForm, Limit, ReadFault, OutOfMemory}
+use Rattle.gsql.specs.declared.stop.Stop.TheVariants.{BadTable, Unread, OtherForm, Limit, ReadFault, OutOfMemory}
 use Rattle.gsql.specs.declared.status.LimitName.{LimitName}
 use Rattle.gsql.specs.declared.status.LimitName.TheVariants as limit
-use Rattle.gsql.specs.Limits.{catalog_bytes, query_bytes, table_bytes, nested}
+use Rattle.gsql.specs.Limits.{catalog_bytes, deep, heavy, query_bytes, table_bytes, nested}
 
 -- What is said of a file's bytes. Where they aren't told, it is said of some bytes.
 abbrev pub OnTold : Option (List ℕ) → (List ℕ → Type 0) → Type 0
@@ -33,6 +35,7 @@ abbrev pub Stage : ℕ → LimitName → ℕ → List ℕ → (List ℕ → Opti
 Stage limit limited file name content begun Said (Ok answer) = OnTold (content name) (λ bytes. (length bytes ≤ limit) × Said bytes (Ok answer))
 Stage limit limited file name content begun Said (Err (Unread place)) = OnTold (content name) (λ bytes. (length bytes ≤ limit) × Said bytes (Err (Unread place)))
 Stage limit limited file name content begun Said (Err OtherForm) = OnTold (content name) (λ bytes. (length bytes ≤ limit) × Said bytes (Err OtherForm))
+Stage limit limited file name content begun Said (Err (BadTable row field)) = OnTold (content name) (λ bytes. (length bytes ≤ limit) × Said bytes (Err (BadTable row field)))
 Stage limit limited file name content begun Said (Err (Limit exceeded)) =
     ((exceeded ≡ limited) × OnTold (content name) (λ bytes. limit < length bytes))
     ⊎ OnTold (content name) (λ bytes. (length bytes ≤ limit) × Said bytes (Err (Limit exceeded)))
@@ -50,7 +53,7 @@ Answers table query rows answer =
 -- what the bytes of a table file say: its rows, over which the query is evaluated, or the first faulty cell
 abbrev pub TableSaid : TableDef → Query → List ℕ → Result Rows Stop → Type 0
 TableSaid table query bytes (Ok answer) = (rows : List (List Value)) × (TableOf table.columns bytes ≡ Ok rows) × Answers table query rows answer
-TableSaid table query bytes (Err OtherForm) = (at : ℕ × ℕ) × (TableOf table.columns bytes ≡ Err at)
+TableSaid table query bytes (Err (BadTable row field)) = TableOf table.columns bytes ≡ Err (row, field)
 TableSaid table query bytes (Err OutOfMemory) = Unit {0}
 TableSaid table query bytes (Err _) = ⊥
 
@@ -60,20 +63,33 @@ TableStage table query content begun answer = Stage table_bytes limit.TableBytes
 
 -- ---- the query
 
--- the tokens are a small query that has a type over the table
+-- the query is within the limits of depth and weight
+abbrev pub Within : Query → Type 0
+Within query = (Depth query ≤ deep) × (Weight query ≤ heavy)
+
+-- it is above the limit of this name, and not above that of one before
+abbrev pub Exceeds : LimitName → Query → Type 0
+Exceeds limit.Depth query = deep < Depth query
+Exceeds limit.Weight query = (Depth query ≤ deep) × (heavy < Weight query)
+Exceeds _ query = ⊥
+
+-- the tokens are a small query within the limits, which has a type over the table
 abbrev pub IsQuery : TableDef → List Token → Query → Type 0
-IsQuery table tokens query = SmallOf tokens query × ((columns : List (Named SqlType)) × (TypeQuery (one table) query nothing_in_sight ≡ Ok columns))
+IsQuery table tokens query = SmallOf tokens query × Within query × ((columns : List (Named SqlType)) × (TypeQuery (one table) query nothing_in_sight ≡ Ok columns))
 
--- the tokens are none
+-- the tokens are no small query, or one within the limits that has no type over the table
 abbrev pub NoQuery : TableDef → List Token → Type 0
-NoQuery table tokens = (query : Query) (columns : List (Named SqlType)) → SmallOf tokens query → TypeQuery (one table) query nothing_in_sight ≢ Ok columns
+NoQuery table tokens = (query : Query) → SmallOf tokens query → Within query × ((columns : List (Named SqlType)) → TypeQuery (one table) query nothing_in_sight ≢ Ok columns)
 
--- what the tokens of a query say: a query, and then the table's stage answers; or no query of the form that is taken
+-- what the tokens of a query say: a query, and then the table's stage answers; a query above a limit; or no query of the form that
+-- is taken
 abbrev pub TokensSaid : TableDef → (List ℕ → Option (List ℕ)) → Option (List ℕ) → List Token → Result Rows Stop → Type 0
 TokensSaid table content begun tokens (Ok answer) = (query : Query) × IsQuery table tokens query × TableStage table query content begun (Ok answer)
-TokensSaid table content begun tokens (Err OtherForm) =
-    NoQuery table tokens ⊎ ((query : Query) × IsQuery table tokens query × TableStage table query content begun (Err OtherForm))
-TokensSaid table content begun tokens (Err (Limit exceeded)) = (query : Query) × IsQuery table tokens query × TableStage table query content begun (Err (Limit exceeded))
+TokensSaid table content begun tokens (Err OtherForm) = NoQuery table tokens
+TokensSaid table content begun tokens (Err (BadTable row field)) = (query : Query) × IsQuery table tokens query × TableStage table query content begun (Err (BadTable row field))
+TokensSaid table content begun tokens (Err (Limit exceeded)) =
+    ((query : Query) × SmallOf tokens query × Exceeds exceeded query)
+    ⊎ ((query : Query) × IsQuery table tokens query × TableStage table query content begun (Err (Limit exceeded)))
 TokensSaid table content begun tokens (Err (ReadFault file)) = (query : Query) × IsQuery table tokens query × TableStage table query content begun (Err (ReadFault file))
 TokensSaid table content begun tokens (Err (Unread place)) = ⊥
 TokensSaid table content begun tokens (Err OutOfMemory) = Unit {0}
@@ -91,6 +107,7 @@ abbrev pub QuerySaid : TableDef → (List ℕ → Option (List ℕ)) → Option 
 QuerySaid table content begun bytes (Ok answer) = OnTokens bytes (λ tokens. TokensSaid table content begun tokens (Ok answer))
 QuerySaid table content begun bytes (Err (Unread place)) = TokensOf bytes (Err place)
 QuerySaid table content begun bytes (Err OtherForm) = OnTokens bytes (λ tokens. TokensSaid table content begun tokens (Err OtherForm))
+QuerySaid table content begun bytes (Err (BadTable row field)) = OnTokens bytes (λ tokens. TokensSaid table content begun tokens (Err (BadTable row field)))
 QuerySaid table content begun bytes (Err (Limit exceeded)) =
     ((exceeded ≡ limit.Nest) × NestsAbove bytes) ⊎ OnTokens bytes (λ tokens. TokensSaid table content begun tokens (Err (Limit exceeded)))
 QuerySaid table content begun bytes (Err (ReadFault file)) = OnTokens bytes (λ tokens. TokensSaid table content begun tokens (Err (ReadFault file)))

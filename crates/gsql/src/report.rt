@@ -41,6 +41,20 @@ fn refused_line(alloc: Global, rule: u8, place: u64) -> Result<Bytes, AllocError
     Ok(Items::from_vec(line))
 }
 
+fn bad_table_line(alloc: Global, table: u64, row: u64, field: u64) -> Result<Bytes, AllocError>
+    ensures { IfOk result (λ bytes. bytes ≡ report.bad_table_line table row field) }
+{
+    let mut line = Vec::from_slice(alloc, b"BADTABLE ")?;
+    let mut buffer = Buffer::new();
+    line.extend_from_slice(buffer.format(table).as_bytes())?;
+    line.push(b' ')?;
+    line.extend_from_slice(buffer.format(row).as_bytes())?;
+    line.push(b' ')?;
+    line.extend_from_slice(buffer.format(field).as_bytes())?;
+    line.push(b'\n')?;
+    Ok(Items::from_vec(line))
+}
+
 fn limit_line(alloc: Global, name: LimitName) -> Result<Bytes, AllocError>
     ensures { IfOk result (λ bytes. bytes ≡ report.limit_line name) }
 {
@@ -80,6 +94,18 @@ fn refused(alloc: Global, rule: u8, place: u64) -> Result<Printed, AllocError>
     })
 }
 
+// The only table of the catalog is number 0.
+fn bad_table(alloc: Global, row: u64, field: u64) -> Result<Printed, AllocError>
+    ensures { IfOk result (λ p. (p.status ≡ Status.BadTable 0 row field) × (p.out ≡ []) × (p.err ≡ report.bad_table_line 0 row field)) }
+{
+    let table = 0;
+    Ok(Printed {
+        out: Items::new(alloc),
+        err: bad_table_line(alloc, table, row, field)?,
+        status: Status::BadTable { table, row, field },
+    })
+}
+
 // The report of an answer.
 fn told(alloc: Global, answer: Result<Rows, Stop>) -> Result<Printed, AllocError>
     ensures { IfOk result (λ p. Tells answer p.status p.out p.err) }
@@ -94,6 +120,7 @@ fn told(alloc: Global, answer: Result<Rows, Stop>) -> Result<Printed, AllocError
         }),
         Err(Stop::Unread(place)) => refused(alloc, 1, place),
         Err(Stop::OtherForm) => refused(alloc, 2, 0),
+        Err(Stop::BadTable { row, field }) => bad_table(alloc, row, field),
         Err(Stop::Limit(name)) => Ok(Printed {
             out: Items::new(alloc),
             err: limit_line(alloc, name)?,

@@ -35,8 +35,10 @@ fn deliver<O: Sink, E: Sink>(printed: Printed, out: &mut O, err: &mut E) -> Resu
 /// `Done` comes where the query was evaluated: its rows are on `out`, and they are rows that the query's meaning permits
 /// over the table that was read. Every other status says why there are none, with one line on `err`: `Usage` by the words,
 /// `Refused` with rule 1 where a query has no tokens, at the first byte that can't be read, and with rule 2 at place 0 where a
-/// catalog, query or table file is of another form, `Limit` where a file has too many bytes or a query's brackets nest too
-/// deep, `ReadFault` where a file can't be read. After a failed write the status is `WriteFault`, and a front of the report was written.
+/// catalog or a query is of another form or the query has no type, `BadTable` where the table file is at fault, with its
+/// first faulty record and field, `Limit` where a file has too many bytes or a query nests too deep or is too deep or too
+/// heavy, `ReadFault` where a file can't be read. After a failed write the status is `WriteFault`, and a front of the report
+/// was written.
 /// `OutOfMemory` writes nothing.
 pub fn run_gsql<I: Inputs, O: Sink, E: Sink>(
     alloc: Global,

@@ -1,8 +1,10 @@
 //! The stages of a run: the catalog, the query, and the table with its evaluation.
 ghost use Rattle.std.specs.Prelude.{◌≡◌};
+ghost use Rattle.small_query.specs.Forms.{SmallOf};
 ghost use Rattle.small_run.specs.Plans.{Plans};
 ghost use Rattle.gsql.specs.Stages as stage;
 ghost use Rattle.gsql.specs.Counted.{Counted};
+ghost use Rattle.gsql.specs.Measured.{Measured};
 ghost use Rattle.gsql.specs.Parts.{IsPart};
 
 use crate::status::LimitName;
@@ -15,6 +17,7 @@ use small_run::{NoPlan, Plan, plan, run};
 use sql_ast::{Query, Refusal, Token};
 use sql_catalog::TableDef;
 use sql_lexer::{LexFault, lex, nest};
+use sql_measures::{depth, weight};
 use sql_types::Rows;
 use std::alloc::Global;
 
@@ -26,6 +29,10 @@ pub const QUERY_BYTES: u64 = 1_048_576;
 pub const TABLE_BYTES: u64 = 67_108_864;
 /// The greatest number of brackets that are open at one token of a query.
 pub const NEST: u64 = 200;
+/// The greatest depth of a query.
+pub const DEPTH: u64 = 400;
+/// The greatest weight of a query.
+pub const WEIGHT: u64 = 200_000;
 
 // Reads a whole file within its limit.
 fn read_part<I: Inputs>(
@@ -63,7 +70,7 @@ fn table_said(
     let _query = query;
     match read_table(alloc, table, bytes) {
         Ok(rows) => Ok(run(alloc, plan, &rows)?),
-        Err(TableRefusal::Fault { .. }) => Err(Stop::OtherForm),
+        Err(TableRefusal::Fault { row, field }) => Err(Stop::BadTable { row, field }),
         Err(TableRefusal::OutOfMemory) => Err(Stop::OutOfMemory),
     }
 }
@@ -92,6 +99,58 @@ fn table_stage<I: Inputs>(
     }
 }
 
+// The limit that a query is above, if any.
+fn exceeded(query: &Query) -> Option<LimitName>
+    ensures { Measured query.now result }
+{
+    if depth(query) > DEPTH {
+        Some(LimitName::Depth)
+    } else if weight(query) > WEIGHT {
+        Some(LimitName::Weight)
+    } else {
+        None
+    }
+}
+
+// Goes on from a query within the limits to its table.
+fn query_planned<I: Inputs>(
+    alloc: Global,
+    inputs: &mut I,
+    table: &TableDef,
+    tokens: &[Token],
+    query: &Query,
+) -> Result<Rows, Stop>
+    requires small { SmallOf tokens.now query.now }
+    requires within { stage.Within query.now }
+    ensures said { stage.TokensSaid table.now (I.content inputs.old) (I.begun inputs.new) tokens.now result }
+    ensures counted { Counted (I.faults inputs.old) (I.faults inputs.new) (I.broken inputs.new) result }
+{
+    small_query::laws::once();
+    match plan(alloc, table, query) {
+        Ok(plan) => table_stage(alloc, inputs, table, query, &plan),
+        Err(NoPlan::OtherForm) => Err(Stop::OtherForm),
+        Err(NoPlan::OutOfMemory) => Err(Stop::OutOfMemory),
+    }
+}
+
+// Goes on from a query to its table, if the query is within the limits.
+fn query_measured<I: Inputs>(
+    alloc: Global,
+    inputs: &mut I,
+    table: &TableDef,
+    tokens: &[Token],
+    query: &Query,
+) -> Result<Rows, Stop>
+    requires { SmallOf tokens.now query.now }
+    ensures said { stage.TokensSaid table.now (I.content inputs.old) (I.begun inputs.new) tokens.now result }
+    ensures counted { Counted (I.faults inputs.old) (I.faults inputs.new) (I.broken inputs.new) result }
+{
+    match exceeded(query) {
+        Some(name) => Err(Stop::Limit(name)),
+        None => query_planned(alloc, inputs, table, tokens, query),
+    }
+}
+
 // Reads tokens of the form that is taken as a query, and goes on to its table.
 fn tokens_said<I: Inputs>(
     alloc: Global,
@@ -102,13 +161,8 @@ fn tokens_said<I: Inputs>(
     ensures said { stage.TokensSaid table.now (I.content inputs.old) (I.begun inputs.new) tokens.now result }
     ensures counted { Counted (I.faults inputs.old) (I.faults inputs.new) (I.broken inputs.new) result }
 {
-    small_query::laws::once();
     match read_query(alloc, tokens) {
-        Ok(query) => match plan(alloc, table, &query) {
-            Ok(plan) => table_stage(alloc, inputs, table, &query, &plan),
-            Err(NoPlan::OtherForm) => Err(Stop::OtherForm),
-            Err(NoPlan::OutOfMemory) => Err(Stop::OutOfMemory),
-        },
+        Ok(query) => query_measured(alloc, inputs, table, tokens, &query),
         Err(Refusal::Rule { .. }) => Err(Stop::OtherForm),
         Err(Refusal::OutOfMemory) => Err(Stop::OutOfMemory),
     }
@@ -134,6 +188,8 @@ fn query_said<I: Inputs>(
     }
 }
 
+// Reads a query within its limit, and goes on from its bytes.
+#[tactic(auto, using(crate::proofs::Staged::staged))]
 fn query_stage<I: Inputs>(
     alloc: Global,
     inputs: &mut I,

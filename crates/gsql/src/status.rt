@@ -49,10 +49,13 @@ pub enum Status {
     /// Everything was written. `tree` is empty until trees are made.
     Done { tree: Bytes },
     /// The text breaks a rule at a place. A text that has no tokens is rule 1 at the first byte that can't be read. So far every
-    /// catalog, query or table file of another form is rule 2 at place 0.
+    /// catalog or query of another form is rule 2 at place 0.
     Refused { rule: u8, place: u64 },
     /// The words don't ask for anything.
     Usage { kind: UsageKind },
+    /// A table's file is at fault: the number of the table in the catalog, and the record and the field of the first faulty
+    /// cell, all from 0. Record 0 is the header.
+    BadTable { table: u64, row: u64, field: u64 },
     /// A file or a text is above a limit.
     Limit { name: LimitName },
     /// A file can't be read: 0 is the catalog, 1 the query, and 2 the table.
@@ -70,6 +73,7 @@ impl Status {
             Status::Done { .. } => 0,
             Status::Refused { .. } => 1,
             Status::Usage { .. } => 3,
+            Status::BadTable { .. } => 5,
             Status::Limit { .. } => 6,
             Status::ReadFault { .. } => 7,
             Status::WriteFault => 8,

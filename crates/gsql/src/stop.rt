@@ -7,10 +7,12 @@ use std::alloc::AllocError;
 pub enum Stop {
     /// A query whose text has no tokens: the place of the first byte of the token or comment that can't be read.
     Unread(u64),
-    /// A catalog, query or table file of a form that isn't taken.
+    /// A catalog or query of a form that isn't taken.
     OtherForm,
     /// A file or text above a limit.
     Limit(LimitName),
+    /// A table file whose first faulty cell is the field `field` of the record `row`, both from 0; record 0 is the header.
+    BadTable { row: u64, field: u64 },
     /// A file that can't be read.
     ReadFault(u64),
     OutOfMemory,

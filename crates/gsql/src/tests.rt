@@ -108,22 +108,38 @@ fn rows(rt: HostRuntime) -> Result<(), Fail> {
 #[test]
 fn refusals(rt: HostRuntime) -> Result<(), Fail> {
     let alloc = rt.alloc();
-    let table: [(&[u8], &[u8], &[u8]); 9] = [
-        (b"SELECT a FROM t WHERE z = 2", TABLE, b"REFUSED 2 0\n"),
-        (b"SELECT a FROM t", TABLE, b"REFUSED 2 0\n"),
-        (b"SELECT t FROM t WHERE a = 2", TABLE, b"REFUSED 2 0\n"),
-        (b"SELECT a FROM t WHERE a = 'x'", TABLE, b"REFUSED 2 0\n"),
-        (b"SELECT a FROM q WHERE a = 2", TABLE, b"REFUSED 2 0\n"),
-        (QUERY, b"a,b\n1,x\n5\n", b"REFUSED 2 0\n"),
-        (QUERY, b"", b"REFUSED 2 0\n"),
-        (b"SELECT 'abc", TABLE, b"REFUSED 1 7\n"),
-        (b"SELECT 1 /*", TABLE, b"REFUSED 1 9\n"),
+    let table: [(&[u8], &[u8]); 7] = [
+        (b"SELECT a FROM t WHERE z = 2", b"REFUSED 2 0\n"),
+        (b"SELECT a FROM t", b"REFUSED 2 0\n"),
+        (b"SELECT t FROM t WHERE a = 2", b"REFUSED 2 0\n"),
+        (b"SELECT a FROM t WHERE a = 'x'", b"REFUSED 2 0\n"),
+        (b"SELECT a FROM q WHERE a = 2", b"REFUSED 2 0\n"),
+        (b"SELECT 'abc", b"REFUSED 1 7\n"),
+        (b"SELECT 1 /*", b"REFUSED 1 9\n"),
     ];
-    for (query, cells, line) in table {
-        let ended = run_query(alloc, query, cells)?;
+    for (query, line) in table {
+        let ended = run_query(alloc, query, TABLE)?;
         assert_eq!(rt; ended.out.bytes(), b"".as_slice());
         assert_eq!(rt; ended.err.bytes(), line);
         assert_eq!(rt; ended.code, 1);
+    }
+    Ok(())
+}
+
+#[test]
+fn bad_tables(rt: HostRuntime) -> Result<(), Fail> {
+    let alloc = rt.alloc();
+    let table: [(&[u8], &[u8]); 4] = [
+        (b"a,b\n1,x\n5\n", b"BADTABLE 0 2 1\n"),
+        (b"", b"BADTABLE 0 0 0\n"),
+        (b"a,c\n", b"BADTABLE 0 0 1\n"),
+        (b"a,b\nx,1\n", b"BADTABLE 0 1 0\n"),
+    ];
+    for (cells, line) in table {
+        let ended = run_query(alloc, QUERY, cells)?;
+        assert_eq!(rt; ended.out.bytes(), b"".as_slice());
+        assert_eq!(rt; ended.err.bytes(), line);
+        assert_eq!(rt; ended.code, 5);
     }
     Ok(())
 }

@@ -5,7 +5,7 @@ use Rattle.fronts.proofs.Places.{go_wrong, inside}
 use Rattle.sql_ast.specs.declared.token.Token.{Token}
 use Rattle.sql_ast.specs.declared.refusal.Refusal.{Refusal}
 use Rattle.sql_lexer.specs.declared.tokens.Tokens.{Tokens}
-use Rattle.sql_grammar.specs.Ways.{Parser, Ended, until}
+use Rattle.sql_grammar.specs.Ways.{Parser, Ended, until, following}
 use Rattle.parse_words.specs.Reads.{from, Refuses}
 use Rattle.parse_words.proofs.Refusals.{refused_as}
 
@@ -73,3 +73,51 @@ module _ {A E : Type 0} (ts : List Token) (fits : Token → Bool) (item : Parser
 pub ending_refused : {A E : Type 0} (text : Tokens) (fits : Token → Bool) (item : Parser (Ended A E)) (whole : Outcome Token (Ended A E)) (found : List A) (at : ℕ) → Ending text.list fits item whole found at
     → comes fits (from text at) ≡ true → (e : Refusal) → Refuses text (item (from text at)) e → Refuses text whole e
 ending_refused text fits item whole found at g h e w = refused_as text (item (from text at)) whole e (λ rest is. end_wrong text.list fits item whole found at g h rest is) w
+
+-- ---- repetitions of which each item says what the next begins with
+
+-- So far these were found, this is what the next begins with, and the repetition that comes to this whole outcome goes on
+-- from this place, with as many turns as there are tokens left, or more.
+pub record Followed {A E : Type 0} (ts : List Token) (item : E → Parser (A × Option E)) (whole : Outcome Token (List A)) (found : List A) (next : Option E) (at : ℕ) : Type 0 where
+  pub turns : ℕ
+  pub room : length ts - at < turns
+  pub is : whole ≡ following item turns found next (drop at ts)
+
+module _ {A E : Type 0} (ts : List Token) (item : E → Parser (A × Option E)) where
+  pub follow_begin : (found : List A) (next : Option E) (at : ℕ) → Followed ts item (following item (suc (length ts)) found next (drop at ts)) found next at
+  follow_begin found next at = record { turns = suc (length ts); room = omega arith; is = refl }
+
+  follow_by : (turns : ℕ) (whole : Outcome Token (List A)) (found : List A) (e : E) (at : ℕ) → length ts - at < turns → whole ≡ following item turns found (Some e) (drop at ts)
+      → (n : ℕ) × (length ts - at ≤ n) × (whole ≡ and_then (item e (drop at ts)) (λ x. following item n (found ++ x.0 ∷ []) x.1))
+  unfolding following
+  follow_by zero whole found e at lt is = absurd (omega arith)
+  follow_by (suc n) whole found e at lt is = (n, omega arith, is)
+
+  follow_stop : (turns : ℕ) (found : List A) (at : ℕ) → following item turns found None (drop at ts) ≡ taken found (drop at ts)
+  unfolding following
+  follow_stop zero found at = refl
+  follow_stop (suc n) found at = refl
+
+  module _ (whole : Outcome Token (List A)) (found : List A) (next : Option E) (at : ℕ) (g : Followed ts item whole found next at) where
+    -- an item more was found
+    pub follow_on : (e : E) → next ≡ Some e → at < length ts → (x : A) (read : Option E) (behind : ℕ) → at < behind → item e (drop at ts) ≡ taken (x, read) (drop behind ts)
+        → (more : List A) → more ≡ found ++ x ∷ [] → Followed ts item whole more read behind
+    follow_on e h inside x read behind up is more same =
+        let s = follow_by g.turns whole found e at g.room (g.is ∙ ap (λ (o : Option E). following item g.turns found o (drop at ts)) h) in
+        let going : Followed ts item whole (found ++ x ∷ []) read behind = record { turns = s.0; room = omega (arith, s.1); is = s.2 ∙ ap (λ o. and_then o (λ x. following item s.0 (found ++ x.0 ∷ []) x.1)) is } in
+        subst (λ (ys : List A). Followed ts item whole ys read behind) (sym same) going
+
+    -- an item is stuck
+    pub follow_wrong : (e : E) → next ≡ Some e → (rest : List Token) → item e (drop at ts) ≡ stuck rest → whole ≡ stuck rest
+    follow_wrong e h rest is =
+        let s = follow_by g.turns whole found e at g.room (g.is ∙ ap (λ (o : Option E). following item g.turns found o (drop at ts)) h) in
+        s.2 ∙ ap (λ o. and_then o (λ x. following item s.0 (found ++ x.0 ∷ []) x.1)) is
+
+    -- no item comes any more
+    pub follow_end : next ≡ None → whole ≡ taken found (drop at ts)
+    follow_end h = g.is ∙ ap (λ (o : Option E). following item g.turns found o (drop at ts)) h ∙ follow_stop g.turns found at
+
+-- an item of such a repetition is refused
+pub following_refused : {A E : Type 0} (text : Tokens) (item : E → Parser (A × Option E)) (whole : Outcome Token (List A)) (found : List A) (next : Option E) (at : ℕ) → Followed text.list item whole found next at
+    → (e : E) → next ≡ Some e → (r : Refusal) → Refuses text (item e (from text at)) r → Refuses text whole r
+following_refused text item whole found next at g e h r w = refused_as text (item e (from text at)) whole r (λ rest is. follow_wrong text.list item whole found next at g e h rest is) w

@@ -1,3 +1,4 @@
+pub mod KeptTokens
 pub mod Marked
 pub mod Reads
 pub mod TypeStarts

@@ -1,15 +1,13 @@
 //! The token at a place of a text, and the refusal there.
 ghost use Rattle.std.specs.Prelude.{◌≡◌, ◌+◌, ◌^◌, ◌<◌, true, IfOk, OnSome};
 ghost use Rattle.fronts.specs.Readers.{comes, next, refuse, token};
-ghost use Rattle.sql_ast.specs.Marks as spec;
-ghost use Rattle.sql_grammar.specs.Exprs.{starred};
 ghost use Rattle.sql_grammar.specs.Ways.{place_of};
 ghost use Rattle.parse_words.specs.Marked.{marked};
 ghost use Rattle.parse_words.specs.Reads.{from, fault_place, Reads, Refuses, Stands, Takes};
 
 use crate::marks::Mark;
 use crate::takes::takes;
-use sql_ast::{Lexeme, Refusal, Reserved, Sign, Token};
+use sql_ast::{Refusal, Token};
 use sql_lexer::Tokens;
 
 /// What was read, and the place of the next token, counted in tokens from 0. The refusal is of rule 1, at the first token that
@@ -95,67 +93,6 @@ pub fn expect_marked<'a>(
                 Err(refusal_at(tokens, at))
             }
         }
-        None => Err(refusal_at(tokens, at)),
-    }
-}
-
-/// The same of an operator or a mark, as a token of its own.
-#[tactic(auto, unfolding(fronts::specs::Readers::token, sql_ast::specs::Marks::same_sign))]
-pub fn expect_sign(tokens: &Tokens, at: usize, sign: Sign) -> Read<Token>
-    ensures reads { Reads tokens.now (token (spec.sign sign) (from tokens.now at)) result }
-    ensures moves { IfOk result (λ p. at < p.1) }
-{
-    match token_at(tokens, at) {
-        Some(token) => match &token.lexeme {
-            Lexeme::Sign(found) => {
-                if sign == *found {
-                    let lexeme = Lexeme::Sign(*found);
-                    let start = token.start;
-                    let end = token.end;
-                    Ok((Token { lexeme, start, end }, at + 1))
-                } else {
-                    Err(refusal_at(tokens, at))
-                }
-            }
-            _ => Err(refusal_at(tokens, at)),
-        },
-        None => Err(refusal_at(tokens, at)),
-    }
-}
-
-/// The same of `*`, where one is permitted.
-#[tactic(auto, unfolding(fronts::specs::Readers::token, sql_ast::specs::Marks::same_sign))]
-pub fn expect_star(tokens: &Tokens, at: usize, permitted: bool) -> Read<Token>
-    ensures reads { Reads tokens.now (token (starred permitted) (from tokens.now at)) result }
-    ensures moves { IfOk result (λ p. at < p.1) }
-{
-    if permitted {
-        expect_sign(tokens, at, Sign::Star)
-    } else {
-        Err(refusal_at(tokens, at))
-    }
-}
-
-/// The same of a reserved word, as a token of its own.
-#[tactic(auto, unfolding(fronts::specs::Readers::token, sql_ast::specs::Marks::same_reserved))]
-pub fn expect_word(tokens: &Tokens, at: usize, word: Reserved) -> Read<Token>
-    ensures reads { Reads tokens.now (token (spec.reserved word) (from tokens.now at)) result }
-    ensures moves { IfOk result (λ p. at < p.1) }
-{
-    match token_at(tokens, at) {
-        Some(token) => match &token.lexeme {
-            Lexeme::Reserved(found) => {
-                if word == *found {
-                    let lexeme = Lexeme::Reserved(*found);
-                    let start = token.start;
-                    let end = token.end;
-                    Ok((Token { lexeme, start, end }, at + 1))
-                } else {
-                    Err(refusal_at(tokens, at))
-                }
-            }
-            _ => Err(refusal_at(tokens, at)),
-        },
         None => Err(refusal_at(tokens, at)),
     }
 }

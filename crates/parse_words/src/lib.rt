@@ -3,6 +3,7 @@
 #![tactic(auto)]
 
 pub mod cursor;
+pub mod kept;
 pub mod marks;
 pub mod names;
 pub mod options;
@@ -14,4 +15,5 @@ pub mod type_starts;
 pub mod types;
 
 pub use cursor::{Read, expect, refusal_at, sees, start_at, token_at};
+pub use kept::Kept;
 pub use marks::Mark;

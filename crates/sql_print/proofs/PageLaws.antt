@@ -1,8 +1,8 @@
 -- What is written on a page is the text of its tokens.
-use Rattle.std.proofs.Common.{◌≡◌, ℕ, ◌+◌, ◌-◌, ◌<◌, ◌≤◌, Bool, true, false, List, [], ◌∷◌, ◌++◌, length, map, drop, take, get_or, refl, sym, ◌∙◌, ap, append_assoc, arith}
+use Rattle.std.proofs.Common.{◌≡◌, ℕ, ◌+◌, ◌-◌, ◌<◌, ◌≤◌, List, [], ◌∷◌, ◌++◌, length, map, drop, take, get_or, refl, sym, ◌∙◌, ap, append_assoc, arith}
 use Rattle.std.proofs.lemmas.List.{drop_more, take_all, length-drop}
 use Rattle.sql_ast.specs.Pieces.{Piece, lexeme_text, space, text_behind, text_of, with_commas, after_commas}
-use Rattle.sql_print.specs.Pages.{Page, blank, gap, after, written}
+use Rattle.sql_print.specs.Pages.{Page, blank, after, written}
 
 pub written_append : (page : Page) (xs ys : List Piece) → written page (xs ++ ys) ≡ written (written page xs) ys
 written_append page [] ys = refl

@@ -1,5 +1,5 @@
 -- The tokens of each construct of an expression, given the levels and the tokens of its operands.
-use Rattle.std.specs.Prelude.{ℕ, Bool, true, false, List, [], ◌∷◌, ◌++◌, map, Option, None, Some}
+use Rattle.std.specs.Prelude.{ℕ, Bool, true, false, List, [], ◌∷◌, ◌++◌, map, Option}
 use Rattle.sql_names.specs.declared.words.Reserved.{Reserved}
 use Rattle.sql_names.specs.declared.words.Reserved.TheVariants as r
 use Rattle.sql_ast.specs.declared.words.Sign.TheVariants as s
@@ -89,6 +89,10 @@ module _ {E : Type 0} (says : E → List Piece) where
 
   abbrev pub typed_struct_pieces : List (TypeField TypeSpelling) → List E → List Piece
   typed_struct_pieces fields parts = word r.Struct ∷ (angled (listed (field_pieces type_pieces) fields) ++ bracketed (listed says parts))
+
+abbrev pub truth_word : Bool → Piece
+truth_word true = word r.True
+truth_word false = word r.False
 
 abbrev pub date_pieces : List ℕ → List Piece
 date_pieces text = read_word w.Date ∷ spaced (l.Text text) ∷ []

@@ -38,7 +38,7 @@ use Rattle.sql_ast.specs.declared.grouping.Groups.TheVariants as groups
 use Rattle.sql_ast.specs.declared.query.Cte.{Cte}
 use Rattle.sql_ast.specs.declared.query.SetTerm.{SetTerm}
 use Rattle.sql_ast.specs.declared.type_spelling.TypeField.{TypeField}
-use Rattle.sql_ast.specs.Pieces.{Piece, spaced, word, name, read_word, sign, close_sign, with_commas, bracketed, call_brackets, if_there, if_so}
+use Rattle.sql_ast.specs.Pieces.{Piece, word, name, read_word, sign, close_sign, with_commas, bracketed, call_brackets, if_there, if_so}
 use Rattle.sql_ast.specs.Trees.{set_word, set_quantifier}
 use Rattle.sql_ast.specs.Canon.{postfix_level, name_pieces, names_list, alias_pieces, path_pieces, form_piece, operator_pieces, nulls_place_pieces, variables_pieces, nulls_part_pieces, function_piece, call_limit, except_pieces, unpivot_column_pieces, offset_pieces, cube_word}
 

@@ -29,6 +29,28 @@ pub fn print_chain<E: Printed + Leveled>(
     print_links(writer, needed, rest.as_slice())
 }
 
+/// A run of NOT, given by their places.
+#[tactic(auto, using(crate::proofs::PageLaws::written_append))]
+pub fn print_not<E: Printed + Leveled>(
+    writer: &mut Writer,
+    operators: &Items<u64>,
+    operand: &E,
+) -> Result<(), AllocError>
+    ensures { OnOk result (writer.new ≡ pages.written writer.old (exprs.not_pieces E.level E.pieces operators.now operand.now)) }
+{
+    print_nots(writer, operators.as_slice())?;
+    print_operand(writer, 3, operand)
+}
+
+fn print_nots(writer: &mut Writer, operators: &[u64]) -> Result<(), AllocError>
+    ensures { OnOk result (writer.new ≡ pages.written writer.old (exprs.nots operators.now)) }
+{
+    for _place in operators {
+        writer.word(Reserved::Not)?;
+    }
+    Ok(())
+}
+
 /// A run of `+`, `-` and `~`.
 #[tactic(auto, using(crate::proofs::PageLaws::written_append))]
 pub fn print_unary<E: Printed + Leveled>(
@@ -233,6 +255,17 @@ pub fn print_safe_call<E: Printed>(writer: &mut Writer, call: &Call<E>) -> Resul
     writer.read_word(Word::Safe)?;
     writer.sign(Sign::Dot)?;
     call.print(writer)
+}
+
+/// TRUE or FALSE.
+pub fn print_truth(writer: &mut Writer, value: bool) -> Result<(), AllocError>
+    ensures { OnOk result (writer.new ≡ pages.after writer.old (exprs.truth_word value)) }
+{
+    if value {
+        writer.word(Reserved::True)
+    } else {
+        writer.word(Reserved::False)
+    }
 }
 
 /// A DATE literal.

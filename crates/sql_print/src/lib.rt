@@ -1,14 +1,19 @@
-//! The canonical print of each construct of a query, whatever stands in it.
+//! The canonical print of a query, and of each construct in it.
 #![tactic(auto)]
 
 pub mod clauses;
 pub mod exprs;
 pub mod from_items;
+mod levels;
 pub mod names;
 pub mod operands;
 pub mod parts;
 pub mod printed;
+mod printed_trees;
 pub mod queries;
+mod query_text;
 pub mod spelled;
 pub mod words;
 pub mod writer;
+
+pub use query_text::print_query;

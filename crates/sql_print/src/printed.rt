@@ -86,3 +86,21 @@ pub fn print_run<P: Printed>(writer: &mut Writer, list: &[P]) -> Result<(), Allo
     }
     Ok(())
 }
+
+/// Parts that stand one after another.
+pub trait InTurn {
+    // The tokens.
+    ghost in_turn: { Self → List Piece };
+
+    /// Writes the parts with nothing between.
+    fn print_in_turn(&self, writer: &mut Writer) -> Result<(), AllocError>
+        ensures { OnOk result (writer.new ≡ pages.written writer.old (in_turn self.now)) };
+}
+
+impl<P: Printed> InTurn for Items<P> {
+    ghost in_turn = { parts.run P.pieces };
+
+    fn print_in_turn(&self, writer: &mut Writer) -> Result<(), AllocError> {
+        print_run(writer, self.as_slice())
+    }
+}

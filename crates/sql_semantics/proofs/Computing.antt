@@ -19,10 +19,10 @@ use Rattle.sql_ast.specs.declared.query.Joined.{Joined, out-Joined, out-roll-Joi
 use Rattle.sql_ast.specs.declared.query.Query.{Query, out-Query, out-roll-Query}
 use Rattle.sql_ast.specs.declared.query.Select.{Select, out-Select, out-roll-Select}
 use Rattle.sql_rules.specs.declared.scope.Entry.{Entry}
-use Rattle.sql_semantics.specs.Checks.{Checked, broken}
+use Rattle.written_types.specs.Checks.{Checked, broken}
 use Rattle.sql_semantics.specs.Sights.{Sight, nothing_in_sight}
 use Rattle.sql_semantics.specs.FromScopes.{FromScope}
-use Rattle.sql_semantics.specs.TypeNames.{written_type, written_layer}
+use Rattle.written_types.specs.TypeNames.{written_type, written_layer}
 use Rattle.sql_semantics.specs.TypeCalls.{Defined}
 use Rattle.sql_semantics.specs.TypeLayers.{Columns, expr_layer, primary_layer, term_layer, from_layer, joined_layer, query_layer, select_layer}
 use Rattle.sql_semantics.specs.Types.{AsExpr, AsPrimary, AsFrom, AsJoined, AsColumns, typed, TypeExpr, TypePrimary, TypeTerm, TypeFrom, TypeJoined, TypeQuery, TypeSelect, definitions_of, TypeText}

@@ -50,20 +50,23 @@ use Rattle.sql_rules.specs.declared.scope.Member.{Member}
 use Rattle.sql_rules.specs.declared.scope.Found.{Found}
 use Rattle.sql_rules.specs.declared.scope.Found.TheVariants.{Bound, Missing, Ambiguous}
 use Rattle.sql_rules.specs.Scopes.{found}
-use Rattle.sql_semantics.specs.Checks.{Checked}
+use Rattle.written_types.specs.Checks.{Checked}
 use Rattle.sql_semantics.specs.TypeForms.{type_of, field_type, element_of, operator_name}
 use Rattle.sql_semantics.specs.Places.{single_name}
-use Rattle.sql_semantics.specs.TypeNames.{written_type}
+use Rattle.written_types.specs.TypeNames.{written_type}
 use Rattle.sql_semantics.specs.Paths.{leading_names, path_type}
 use Rattle.sql_semantics.specs.FromScopes.{FromScope, beside}
 use Rattle.sql_semantics.specs.TypeCalls.{Defined, part_place}
 use Rattle.sql_semantics.specs.TypeLayers.{Columns, range_of, function_name, is_part, next_part, variable_entry, columns_at, hides_left, lists}
 use Rattle.sql_semantics.specs.Types.{TypePrimary, TypeJoined, TypeQuery}
 use Rattle.sql_semantics.specs.Environments.{Row, Frame, Env, within, with_outcome, sight_of, Reads}
-use Rattle.sql_semantics.specs.MeansForms.{Operand, operator_operand, converted_each, all_converted, args_of, safe_means, negated_means, list_means, pick, is_true, field_value, subscript}
-use Rattle.sql_semantics.specs.MeansFroms.{join_kind, is_equal, joined_each, true_of}
-use Rattle.sql_semantics.specs.MeansLayers.{TableRows, Meant, all_of, as_struct, Meanings, in_any_order, type_or, scope_or, columns_or, looks_left, no_frame, function_among, arg_of, operand, operands, value_as, common, chain_operand, chained, decided, parts_means, bound_means, path_means, postfix_means, expression_operand, argument_operands, call_operands, body_means, call_means, safe_call_means, otherwise_operands, branches_means, last_means, results_of, case_means, bindings_means, expr_means, primary_means, pair_tests, kept_pairs, with_columns, join_each, join_alike, join_by, right_scope, joined_means, joins_means, from_means, replaced_value, edited_values, edit_means, members_means, qualified_means, qualified_by, item_means, values_at, row_means, from_scope, from_rows, inner, where_means, plain_select_means, select_means, term_means, ctes_means, query_means}
+use Rattle.sql_semantics.specs.MeansForms.{Operand, operator_operand, converted_each, all_converted, args_of, safe_means, negated_means, field_value}
+use Rattle.sql_semantics.specs.MeansFroms.{join_kind, is_equal, true_of}
+use Rattle.sql_semantics.specs.MeansLayers.{TableRows, Meant, all_of, as_struct, Meanings, type_or, scope_or, columns_or, looks_left, no_frame, function_among, arg_of, operand, operands, value_as, common, chain_operand, chained, decided, parts_means, bound_means, path_means, postfix_means, expression_operand, argument_operands, call_operands, body_means, call_means, safe_call_means, otherwise_operands, branches_means, last_means, results_of, case_means, bindings_means, expr_means, primary_means, pair_tests, kept_pairs, with_columns, join_each, join_alike, join_by, right_scope, joined_means, joins_means, from_means, replaced_value, edited_values, edit_means, members_means, qualified_means, qualified_by, item_means, values_at, row_means, from_scope, from_rows, inner, where_means, plain_select_means, select_means, term_means, ctes_means, query_means}
 use Rattle.sql_semantics.specs.Meanings.{ME, MP, MJ, MQ, meanings, meant_parts, MeansExpr, MeansPrimary, MeansTerm, MeansFrom, MeansJoined, MeansQuery, MeansSelect}
+use Rattle.sql_forms.specs.Conditions.{is_true, list_means, pick}
+use Rattle.sql_forms.specs.Rows.{in_any_order, joined_each}
+use Rattle.sql_forms.specs.Subscripts.{subscript}
 
 -- one after another is the same where each is
 then_on : {A B : Type 0} (m : Meaning A) {k l : A → Meaning B} → ((x : A) → k x ≡ l x) → (m >>= k) ≡ (m >>= l)

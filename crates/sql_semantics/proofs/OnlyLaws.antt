@@ -10,7 +10,7 @@ use Rattle.sql_rules.specs.declared.scope.Binding.{Binding}
 use Rattle.sql_rules.specs.declared.scope.Found.TheVariants.{Bound}
 use Rattle.sql_semantics.specs.Environments.{Row, Frame, Env, Reads}
 use Rattle.sql_semantics.specs.MeansForms.{single}
-use Rattle.sql_semantics.specs.MeansLayers.{in_any_order}
+use Rattle.sql_forms.specs.Rows.{in_any_order}
 
 pub record Only {A : Type 0} (m : Meaning A) (o : Outcome A) : Type 0 where
   pub given : m o

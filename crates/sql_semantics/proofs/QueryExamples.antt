@@ -14,7 +14,6 @@ use Rattle.sql_rules.specs.declared.scope.Entry.{Entry}
 use Rattle.sql_rules.specs.declared.scope.Found.TheVariants.{Bound}
 use Rattle.sql_rules.specs.Scopes.{found}
 use Rattle.sql_semantics.specs.Environments.{CteOutcome, empty_env, Reads}
-use Rattle.sql_semantics.specs.MeansForms.{is_true}
 use Rattle.sql_semantics.specs.MeansFroms.{in_common, using_value}
 use Rattle.sql_semantics.specs.MeansLayers.{all_of}
 use Rattle.sql_semantics.specs.Meanings.{MeansExpr, MeansSelect}
@@ -24,6 +23,7 @@ use Rattle.sql_semantics.proofs.Computing.{trees, types, values, opens, typing}
 use Rattle.sql_semantics.proofs.OnlyLaws.{Only, only_as, only_just, only_then, only_nothing, only_more, only_both, only_row, only_reads, scalar_of}
 use Rattle.sql_semantics.proofs.Evaluating.{meaning}
 use Rattle.sql_semantics.proofs.MeantExamples.{same_truth}
+use Rattle.sql_forms.specs.Conditions.{is_true}
 
 -- a select list of one name, which is the first column of the only scope
 first_column : (ctes : List CteOutcome) (used : ℕ) {scope : List Entry} {x : Value} {more : List Value} →

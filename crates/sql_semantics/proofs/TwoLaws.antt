@@ -6,9 +6,9 @@ use Rattle.sql_types.specs.declared.value.Value.TheVariants as v
 use Rattle.sql_types.specs.Logic.{Decided, all_valued, one_decides, one_of_faults}
 use Rattle.sql_types.specs.Outcome.{Outcome, Meaning, ◌>>=◌, goes_on, ends, Gather, all_give, one_faults}
 use Rattle.sql_semantics.specs.Environments.{Row}
-use Rattle.sql_semantics.specs.MeansForms.{Tried, a_value, a_fault}
-use Rattle.sql_semantics.specs.MeansLayers.{in_any_order}
 use Rattle.sql_semantics.proofs.OnlyLaws.{Only, same_value, same_fault, no_value, no_fault, only_row}
+use Rattle.sql_forms.specs.Conditions.{Tried, a_fault, a_value}
+use Rattle.sql_forms.specs.Rows.{in_any_order}
 
 pub record Two {A : Type 0} (m : Meaning A) (o p : Outcome A) : Type 0 where
   pub one : m o

@@ -41,7 +41,7 @@ use Rattle.sql_coerce.specs.declared.arg.Arg.{Arg}
 use Rattle.sql_catalog.specs.declared.entries.Entries.{Entries}
 use Rattle.sql_rules.specs.declared.scope.Entry.{Entry}
 use Rattle.sql_rules.specs.Scopes.{found}
-use Rattle.sql_semantics.specs.Checks.{Checked, ◌>>=◌, unless}
+use Rattle.written_types.specs.Checks.{Checked, ◌>>=◌, unless}
 use Rattle.sql_semantics.specs.Sights.{Sight, inside, with_cte, for_struct}
 use Rattle.sql_semantics.specs.Places.{place_of, single_name, implied_name}
 use Rattle.sql_semantics.specs.Paths.{leading_names, path_type}

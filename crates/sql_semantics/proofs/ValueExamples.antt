@@ -16,7 +16,6 @@ use Rattle.sql_builtins.specs.declared.sig.SigId.TheVariants as sig
 use Rattle.sql_builtins.specs.Applies.{apply}
 use Rattle.sql_numbers.specs.Integers.{or_null}
 use Rattle.sql_semantics.specs.Environments.{empty_env}
-use Rattle.sql_semantics.specs.MeansForms.{Caught, no_fault, caught}
 use Rattle.sql_semantics.specs.Meanings.{MeansExpr}
 use Rattle.sql_semantics.proofs.Trees.{named, sum, call}
 use Rattle.sql_semantics.proofs.SmallCatalog.{three_tables, three_rows}
@@ -25,6 +24,7 @@ use Rattle.sql_semantics.proofs.ChoiceExamples.{plus_numbers, div_numbers, iferr
 use Rattle.sql_semantics.proofs.OnlyLaws.{Only, only_as, only_just, only_then, only_fault, only_nothing, only_more, no_value}
 use Rattle.sql_semantics.proofs.MeantExamples.{same_one}
 use Rattle.sql_semantics.proofs.Evaluating.{meaning}
+use Rattle.sql_forms.specs.Conditions.{Caught, caught, no_fault}
 
 -- what an expression permits over these tables, with nothing in sight
 abbrev means : Expr → Meaning Value

@@ -8,7 +8,7 @@ use Rattle.sql_catalog.specs.declared.entries.Definition.TheVariants.{View, Func
 use Rattle.sql_catalog.specs.declared.entries.Entries.{Entries}
 use Rattle.sql_catalog.specs.declared.entries.ParamDef.{ParamDef}
 use Rattle.sql_catalog.specs.declared.entries.TableDef.{TableDef}
-use Rattle.sql_semantics.specs.Checks.{Checked}
+use Rattle.written_types.specs.Checks.{Checked}
 use Rattle.sql_semantics.specs.TypeCalls.{Defined, a_view}
 
 -- the columns of the table of a name

@@ -14,7 +14,7 @@ use Rattle.sql_rules.specs.declared.scope.What.{What}
 use Rattle.sql_rules.specs.declared.scope.What.TheVariants as what
 use Rattle.sql_rules.specs.Scopes.{is_range, columns}
 use Rattle.sql_rules.specs.Tables.{column_entries, members_from}
-use Rattle.sql_semantics.specs.Checks.{Checked, ◌>>=◌, broken}
+use Rattle.written_types.specs.Checks.{Checked, ◌>>=◌, broken}
 use Rattle.sql_semantics.specs.TypeForms.{other_arg, compared_type}
 
 -- The names of an item of FROM, or of several: a scope, and the places of its columns in the order of `*`.

@@ -1,7 +1,5 @@
-pub mod Checks
 pub mod Sights
 pub mod Places
-pub mod TypeNames
 pub mod TypeForms
 pub mod FromScopes
 pub mod Paths

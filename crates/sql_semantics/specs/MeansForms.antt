@@ -25,6 +25,8 @@ use Rattle.sql_builtins.specs.Choices.{chosen}
 use Rattle.sql_builtins.specs.Applies.{apply}
 use Rattle.sql_numbers.specs.Integers.{or_null}
 use Rattle.sql_semantics.specs.TypeForms.{other_arg, type_of, has_label}
+use Rattle.sql_forms.specs.Conditions.{Caught, Tried, first_not_null, is_true, pick}
+use Rattle.sql_forms.specs.Subscripts.{field_layer}
 
 -- what an operand means, and how it is typed
 pub record Operand : Type 1 where
@@ -52,38 +54,12 @@ args_of (x ∷ xs) = x.arg ∷ args_of xs
 
 -- ---- choices among meanings
 
-abbrev pub pick : Bool → Meaning Value → Meaning Value → Meaning Value
-pick true x y = x
-pick false x y = y
-
--- a truth value that is TRUE; NULL counts as FALSE
-abbrev pub is_true : Value → Bool
-is_true x = elim (truth_of x) [ None ↦ false | Some b ↦ b ]
-
-abbrev pub is_null_value : Value → Bool
-is_null_value x = is_null (out-Value x)
-
 -- IF: the test, and then what it chooses
 abbrev pub if_means : List (Meaning Value) → Meaning Value
 if_means [] = nothing
 if_means (test ∷ []) = nothing
 if_means (test ∷ x ∷ []) = nothing
 if_means (test ∷ x ∷ y ∷ more) = test >>= (λ b. pick (is_true b) x y)
-
--- COALESCE and IFNULL: from left to right until one isn't NULL
-abbrev pub first_not_null : List (Meaning Value) → Meaning Value
-first_not_null [] = gives value.Null
-first_not_null (x ∷ xs) = x >>= (λ v. pick (is_null_value v) (first_not_null xs) (gives v))
-
--- IFERROR and NULLIFERROR: what the first gives, and in place of any fault of it the second
-pub data Caught (first second : Meaning Value) : Outcome Value → Type 0 where
-  no_fault : {x : Value} → first (Ok x) → Caught first second (Ok x)
-  caught : {f : FaultKind} {o : Outcome Value} → first (Err f) → second o → Caught first second o
-
--- ISERROR
-pub data Tried (first : Meaning Value) : Outcome Value → Type 0 where
-  a_value : {x : Value} → first (Ok x) → Tried first (Ok (value.Bool false))
-  a_fault : {f : FaultKind} → first (Err f) → Tried first (Ok (value.Bool true))
 
 abbrev pub caught_by : List (Meaning Value) → Meaning Value
 caught_by [] = nothing
@@ -134,16 +110,6 @@ abbrev pub negated_means : Bool → Meaning Value → Meaning Value
 negated_means false m = m
 negated_means true m = m >>= (λ x. gives (of_truth (opposite (truth_of x))))
 
--- ---- IN
-
--- whether a value is among others, by OR over equality: nothing gives FALSE
-abbrev pub among : Value → List Value → Value
-among x ys = of_truth (any_true (map (equal x) ys))
-
--- a written list: the search value once, and then OR over its equality with the elements
-abbrev pub list_means : Meaning Value → List (Meaning Value) → Meaning Value
-list_means search elements = search >>= (λ x. Decided true (map (λ m. m >>= (λ y. gives (of_truth (equal x y)))) elements))
-
 -- ---- subqueries
 
 -- NULL for no row, the value for one, and a fault for more
@@ -151,10 +117,6 @@ abbrev pub single : List (List Value) → Outcome Value
 single [] = Ok value.Null
 single (row ∷ []) = Ok (slice_index_or row 0 value.Null)
 single (row ∷ another ∷ rows) = Err fault.ScalarRows
-
-abbrev pub is_empty : {A : Type 0} → List A → Bool
-is_empty [] = true
-is_empty (x ∷ xs) = false
 
 -- the values of the one column
 abbrev pub column_values : List (List Value) → List Value
@@ -171,11 +133,6 @@ abbrev pub fields_of : t.SqlType-F SqlType → List (Named SqlType)
 fields_of (t.Struct fields) = fields
 fields_of _ = []
 
--- a field of a STRUCT; that of NULL is NULL
-abbrev pub field_layer : ℕ → v.Value-F Value → Value
-field_layer place (v.Struct xs) = slice_index_or xs place value.Null
-field_layer place _ = value.Null
-
 abbrev pub field_value : List ℕ → SqlType → Value → Value
 field_value name type x = field_layer (field_place 0 name (fields_of (out-SqlType type))) (out-Value x)
 
@@ -183,29 +140,3 @@ field_value name type x = field_layer (field_place 0 name (fields_of (out-SqlTyp
 abbrev pub field_values : ℕ → v.Value-F Value → List Value
 field_values count (v.Struct xs) = xs
 field_values count _ = replicate count value.Null
-
--- how many elements stand before the one that is meant: OFFSET counts from 0, ORDINAL from 1
-abbrev pub before_element : IndexForm → ℤ → Option ℕ
-before_element form.Offset (pos n) = Some n
-before_element form.SafeOffset (pos n) = Some n
-before_element form.Ordinal (pos (suc n)) = Some n
-before_element form.SafeOrdinal (pos (suc n)) = Some n
-before_element f n = None
-
--- outside the array the SAFE_ forms give NULL, and the others the fault INDEX
-abbrev pub outside : IndexForm → Outcome Value
-outside form.Offset = Err fault.Index
-outside form.Ordinal = Err fault.Index
-outside form.SafeOffset = Ok value.Null
-outside form.SafeOrdinal = Ok value.Null
-
-abbrev pub element_at : IndexForm → List Value → Option ℕ → Outcome Value
-element_at f xs None = outside f
-element_at f xs (Some n) = elim (slice_get xs n) [ None ↦ outside f | Some x ↦ Ok x ]
-
--- a NULL array or index gives NULL
-abbrev pub subscript : IndexForm → Value → Value → Outcome Value
-subscript f xs i = elim (is_null_value xs) [
-  | true ↦ Ok value.Null
-  | false ↦ elim (is_null_value i) [ true ↦ Ok value.Null | false ↦ element_at f (elements xs) (before_element f (number i)) ]
-]

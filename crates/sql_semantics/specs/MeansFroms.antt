@@ -18,7 +18,8 @@ use Rattle.sql_coerce.specs.Casts.{converted}
 use Rattle.sql_rules.specs.declared.scope.Entry.{Entry}
 use Rattle.sql_semantics.specs.Environments.{Row}
 use Rattle.sql_semantics.specs.FromScopes.{UsingColumn, fields_layer, entry_type}
-use Rattle.sql_semantics.specs.MeansForms.{is_true, field_values}
+use Rattle.sql_semantics.specs.MeansForms.{field_values}
+use Rattle.sql_forms.specs.Conditions.{is_true}
 
 -- a range variable stands behind the columns, and has no value
 abbrev pub with_range : Option (List ℕ) → Row → Row
@@ -59,14 +60,6 @@ join_kind join.Full = kind.Full
 -- the pairs for which the test is TRUE
 abbrev pub true_of : List Value → List Bool
 true_of tests = map is_true tests
-
--- The rows of a join whose right item has rows of its own for each left row.
-abbrev pub joined_each : JoinKind → ℕ → List Row → List (List Row) → Pairs → List Row
-joined_each k right_width [] rights kept = []
-joined_each k right_width (left ∷ lefts) [] kept = []
-joined_each k right_width (left ∷ lefts) (right ∷ rights) [] = []
-joined_each k right_width (left ∷ lefts) (right ∷ rights) (row ∷ kept) =
-    padded_right k right_width left (met left right row) ++ joined_each k right_width lefts rights kept
 
 -- ---- USING
 

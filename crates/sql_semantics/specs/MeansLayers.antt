@@ -54,10 +54,10 @@ use Rattle.sql_rules.specs.declared.scope.Found.{Found}
 use Rattle.sql_rules.specs.declared.scope.Found.TheVariants.{Bound}
 use Rattle.sql_rules.specs.declared.scope.Member.{Member}
 use Rattle.sql_rules.specs.Scopes.{found}
-use Rattle.sql_semantics.specs.Checks.{Checked}
+use Rattle.written_types.specs.Checks.{Checked}
 use Rattle.sql_semantics.specs.Sights.{last_cte}
 use Rattle.sql_semantics.specs.Places.{single_name, integer_literal}
-use Rattle.sql_semantics.specs.TypeNames.{written_type}
+use Rattle.written_types.specs.TypeNames.{written_type}
 use Rattle.sql_semantics.specs.TypeForms.{other_arg, type_of, integer_value, field_type, element_of, operator_name, prefix_name, comparison_name, test_name, is_minus, is_least}
 use Rattle.sql_semantics.specs.Paths.{leading_names, path_type, path_element}
 use Rattle.sql_semantics.specs.FromScopes.{FromScope, no_from, beside, UsingColumn, using_columns}
@@ -65,8 +65,11 @@ use Rattle.sql_semantics.specs.TypeCalls.{Defined, part_arg, part_place, argumen
 use Rattle.sql_semantics.specs.TypeLayers.{Columns, function_name, is_part, next_part, name_text, named_or, lists, columns_at, range_of, hides_left, seen_scope, variable_entry, member_columns, is_plain_select, is_plain_query}
 use Rattle.sql_semantics.specs.Types.{TypeExpr, TypePrimary, TypeFrom, TypeJoined, TypeQuery}
 use Rattle.sql_semantics.specs.Environments.{Row, Frame, Env, CteOutcome, within, with_outcome, sight_of, Reads}
-use Rattle.sql_semantics.specs.MeansForms.{Operand, converted_to, converted_each, all_converted, args_of, is_true, operator_means, operator_operand, safe_means, negated_means, among, list_means, single, is_empty, column_values, field_value, field_values, fields_of, subscript, pick}
-use Rattle.sql_semantics.specs.MeansFroms.{with_range, unnested, join_kind, true_of, joined_each, is_equal, using_test, with_using}
+use Rattle.sql_semantics.specs.MeansForms.{Operand, converted_to, converted_each, all_converted, args_of, operator_means, operator_operand, safe_means, negated_means, single, column_values, field_value, field_values, fields_of}
+use Rattle.sql_semantics.specs.MeansFroms.{with_range, unnested, join_kind, true_of, is_equal, using_test, with_using}
+use Rattle.sql_forms.specs.Conditions.{among, is_true, list_means, pick}
+use Rattle.sql_forms.specs.Rows.{in_any_order, is_empty, joined_each, kept}
+use Rattle.sql_forms.specs.Subscripts.{subscript}
 
 -- the rows of each table, by its number in the catalog
 abbrev pub TableRows : Type 0
@@ -76,10 +79,6 @@ TableRows = List (List Row)
 pub data Meant : Type 1 where
   view_means : Meaning (List Row) → Meant
   function_means : List (Option SqlType) → (List SqlType → List Value → Meaning Value) → Meant
-
--- any order of the rows
-abbrev pub in_any_order : List Row → Meaning (List Row)
-in_any_order rows o = (list : List Row) × Arranged [] rows list × (o ≡ Ok list)
 
 -- what is typed, where it has a type
 abbrev pub arg_or : Checked Arg → Arg
@@ -106,12 +105,6 @@ one_type (c ∷ columns) = c.ty
 abbrev pub using_or : Checked (List UsingColumn) → List UsingColumn
 using_or (Ok using) = using
 using_or (Err refused) = []
-
--- the elements whose test is TRUE, one test for each
-abbrev pub kept : {A : Type 0} → List A → List Value → List A
-kept [] tests = []
-kept (x ∷ xs) [] = []
-kept (x ∷ xs) (test ∷ tests) = if is_true test then x ∷ kept xs tests else kept xs tests
 
 abbrev pub all_of : {A : Type 0} → List (List A) → List A
 all_of [] = []

@@ -9,7 +9,7 @@ use Rattle.sql_rules.specs.declared.scope.Binding.{Binding}
 use Rattle.sql_rules.specs.declared.scope.Found.{Found}
 use Rattle.sql_rules.specs.declared.scope.Found.TheVariants.{Bound, Missing, Ambiguous}
 use Rattle.sql_rules.specs.Scopes.{found, entry_at, is_range}
-use Rattle.sql_semantics.specs.Checks.{Checked, ◌>>=◌, broken}
+use Rattle.written_types.specs.Checks.{Checked, ◌>>=◌, broken}
 use Rattle.sql_semantics.specs.TypeForms.{field_type, element_of}
 
 -- the names with which the parts of a postfix begin

@@ -17,7 +17,7 @@ use Rattle.sql_builtins.specs.declared.sig.SigId.{SigId}
 use Rattle.sql_builtins.specs.declared.sig.SigId.TheVariants as sig
 use Rattle.sql_builtins.specs.Table.{functions}
 use Rattle.sql_builtins.specs.Choices.{chosen}
-use Rattle.sql_semantics.specs.Checks.{Checked, ◌>>=◌, broken, unless}
+use Rattle.written_types.specs.Checks.{Checked, ◌>>=◌, broken, unless}
 use Rattle.sql_semantics.specs.TypeForms.{other, untyped, type_of, coerces_to}
 
 -- ---- arguments as they are written

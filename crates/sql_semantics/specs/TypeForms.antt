@@ -26,8 +26,8 @@ use Rattle.sql_coerce.specs.Supertypes.{supertype}
 use Rattle.sql_coerce.specs.Casts.{castable}
 use Rattle.sql_builtins.specs.declared.choice.Choice.{Choice}
 use Rattle.sql_builtins.specs.Choices.{chosen, coerces_by, own_type}
-use Rattle.sql_semantics.specs.Checks.{Checked, ◌>>=◌, broken, unless}
-use Rattle.sql_semantics.specs.TypeNames.{is_array}
+use Rattle.written_types.specs.Checks.{Checked, ◌>>=◌, broken, unless}
+use Rattle.written_types.specs.TypeNames.{is_array}
 
 -- ---- kinds
 

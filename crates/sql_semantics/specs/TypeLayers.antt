@@ -44,15 +44,16 @@ use Rattle.sql_rules.specs.declared.scope.What.TheVariants as what
 use Rattle.sql_rules.specs.declared.scope.Found.{Found}
 use Rattle.sql_rules.specs.declared.scope.Found.TheVariants.{Bound, Missing, Ambiguous}
 use Rattle.sql_rules.specs.Scopes.{found, is_range, members_of}
-use Rattle.sql_semantics.specs.Checks.{Checked, ◌>>=◌, broken, unless, in_turn, if_there}
+use Rattle.written_types.specs.Checks.{Checked, ◌>>=◌, broken, unless, in_turn, if_there}
 use Rattle.sql_semantics.specs.Sights.{Sight, CteColumns, inside, with_cte, for_struct, last_cte}
 use Rattle.sql_semantics.specs.Places.{place_of, implied_name, single_name, integer_literal}
-use Rattle.sql_semantics.specs.TypeNames.{written_type, field_types}
+use Rattle.written_types.specs.TypeNames.{written_type, field_types}
 use Rattle.sql_semantics.specs.TypeForms.{literal, other, other_arg, untyped, type_of, needed, condition, integer_type, integer_value, date_literal, operator_type, operator_name, comparison_name, test_name, not_type, prefix_type, common_type, compared_type, element_of, field_type, cast_type, array_of, array_literal, struct_fields, one_column}
 use Rattle.sql_semantics.specs.Paths.{leading_names, path_type, path_element}
 use Rattle.sql_semantics.specs.FromScopes.{FromScope, no_from, columns_scope, unnest_scope, beside, repeats_range, using_columns, using_scope}
 use Rattle.sql_semantics.specs.TypeCalls.{Defined, Written, expression, interval, call_type, safe_call_type, extract_type, has_modifier, part_arg, part_place}
 use Rattle.sql_semantics.specs.CatalogNames.{table_of, view_of, function_of, param_type}
+use Rattle.sql_forms.specs.Rows.{is_empty}
 
 -- a form that isn't built yet
 abbrev pub unbuilt : {A : Type 0} → Checked A
@@ -130,10 +131,6 @@ repeated (name ∷ names) = list_any (same_name name) names || repeated names
 -- one of the columns has the name
 abbrev pub is_column : Columns → List ℕ → Bool
 is_column columns name = list_any (λ c. lists (name ∷ []) c.name) columns
-
-abbrev pub is_empty : {A : Type 0} → List A → Bool
-is_empty [] = true
-is_empty (x ∷ xs) = false
 
 -- the type of the replacement of a column's name
 abbrev pub replaced_type : List (List ℕ × SqlType) → Option (List ℕ) → Option SqlType

@@ -17,7 +17,7 @@ use Rattle.sql_catalog.specs.declared.entries.Written.{Written}
 use Rattle.sql_catalog.specs.declared.entries.Written.TheVariants as written
 use Rattle.sql_rules.specs.declared.scope.Entry.{Entry}
 use Rattle.sql_rules.specs.declared.scope.What.TheVariants as what
-use Rattle.sql_semantics.specs.Checks.{Checked, ◌>>=◌, broken}
+use Rattle.written_types.specs.Checks.{Checked, ◌>>=◌, broken}
 use Rattle.sql_semantics.specs.Sights.{Sight, nothing_in_sight, inside, for_struct}
 use Rattle.sql_semantics.specs.FromScopes.{FromScope}
 use Rattle.sql_semantics.specs.Unbuilt.{unbuilt_query, unbuilt_expr}

@@ -1,4 +1,4 @@
-use Rattle.std.proofs.Common.{◌<◌, Ok, Err, sym, ◌∙◌, arith, rules}
+use Rattle.std.proofs.Common.{◌<◌, Ok, Err, refl, sym, ◌∙◌, arith, rules}
 use Rattle.std.proofs.lemmas.Grind.{common_steps}
 use Rattle.std.proofs.lemmas.Result.{err_from_is_err_and}
 use Rattle.fronts.proofs.Places.{begin, go_on, go_end}
@@ -7,13 +7,14 @@ use Rattle.parse_words.proofs.Loops.{item_refused}
 use Rattle.parse_words.proofs.repeat.many.Goals as goal
 
 pub items-init : goal.items-init
-items-init g c = record { moved = omega arith; going = λ reader h. begin c.args.tokens.now.list (marked c.args.mark) reader c.args.found c.args.at }
+items-init g c = record { moved = omega arith; stays = λ e. refl; going = λ reader h. begin c.args.tokens.now.list (marked c.args.mark) reader c.args.found c.args.at }
 
 pub items-preserved : goal.items-preserved
 items-preserved g c =
     let up : c.items.at < c.in_ok-next.behind = c.requires.moves c.items.at (Ok (c.in_ok-next.next, c.in_ok-next.behind)) c.in_ok-next.ensures in
     record {
       moved = omega arith;
+      stays = λ e. absurd (omega arith);
       going = λ reader h. go_on c.args.tokens.now.list (marked c.args.mark) reader _ c.items.found c.items.at (c.items.invariant.going reader h) (sym c.sees.ensures ∙ c.items-test.true)
           c.in_ok-next.next c.in_ok-next.behind up (h c.items.at (Ok (c.in_ok-next.next, c.in_ok-next.behind)) c.in_ok-next.ensures) _ c.in_ok-push.ensures.ok;
     }

@@ -1,4 +1,4 @@
-use Rattle.std.proofs.Common.{ℕ, ◌≤◌, ◌-◌, length}
+use Rattle.std.proofs.Common.{ℕ, ◌≡◌, ◌≤◌, ◌-◌, length}
 use Rattle.fronts.specs.Readers.{many, Going}
 use Rattle.sql_grammar.specs.Ways.{Parser}
 use Rattle.parse_words.specs.Marked.{marked}
@@ -8,6 +8,7 @@ use Rattle.parse_words.proofs.repeat.many.Given as goal
 abbrev pub invariant-items : goal.invariant-items
 invariant-items g l = record {
   moved : l.fn.at ≤ l.at;
+  stays : l.at ≡ l.fn.at → l.found ≡ l.fn.found;
   going : (reader : Parser _) → ((place : ℕ) (r : _) → goal.F-post g l.item place r → Reads l.tokens (reader (from l.tokens place)) r)
       → Going l.tokens.list (marked l.mark) reader (many (marked l.mark) reader (turns l.tokens) l.fn.found (from l.tokens l.fn.at)) l.found l.at;
 }

@@ -1,5 +1,5 @@
 -- A comma and one part more are written.
-use Rattle.std.proofs.Common.{◌∷◌, List, map, refl, ap, ◌∙◌, arith}
+use Rattle.std.proofs.Common.{◌∷◌, map, refl, ap, ◌∙◌, arith}
 use Rattle.sql_ast.specs.declared.words.Sign.TheVariants as s
 use Rattle.sql_ast.specs.Pieces.{after_commas, sign}
 use Rattle.sql_print.specs.Pages.{written}

@@ -1,5 +1,5 @@
 -- The first part is written, and the others behind commas.
-use Rattle.std.proofs.Common.{rules, sym}
+use Rattle.std.proofs.Common.{sym}
 use Rattle.sql_print.proofs.PageLaws.{commas_first}
 use Rattle.sql_print.proofs.printed.ItemsPrinted.print.Goals as goal
 

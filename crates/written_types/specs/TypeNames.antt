@@ -9,7 +9,7 @@ use Rattle.sql_ast.specs.declared.clauses.Name.{Name}
 use Rattle.sql_ast.specs.declared.type_spelling.TypeField.{TypeField}
 use Rattle.sql_ast.specs.declared.type_spelling.TypeSpelling.{TypeSpelling, fold-TypeSpelling}
 use Rattle.sql_ast.specs.declared.type_spelling.TypeSpelling.TheOpen as spelling
-use Rattle.sql_semantics.specs.Checks.{Checked, ◌>>=◌, broken}
+use Rattle.written_types.specs.Checks.{Checked, ◌>>=◌, broken}
 
 abbrev pub is_array : t.SqlType-F SqlType → Bool
 is_array (t.Array element) = true

@@ -1,0 +1,7 @@
+use Rattle.std.proofs.Common.{rules}
+use Rattle.parse_words.specs.Reads.{reading}
+use Rattle.sql_grammar.specs.Exprs as exprs
+use Rattle.parse_expr.proofs.reader.Reader.more_parts.Goals as goal
+
+pub returns-clause-reads : goal.returns-clause-reads
+returns-clause-reads g c = c.until.ensures.reads (reading c.args.self.now.tokens.now exprs.part_or_star c.args.star) (λ place r h. search rules)

@@ -1,0 +1,13 @@
+pub mod Parts
+pub mod SignatureNames
+pub mod TreeText
+pub mod Lines
+pub mod Pages
+pub mod LiteralsFit
+pub mod Columns
+pub mod Signatures
+pub mod Flaws
+pub mod Tie
+pub mod Slots
+pub mod Meanings
+pub mod Fitting

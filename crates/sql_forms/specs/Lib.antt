@@ -1,0 +1,3 @@
+pub mod Conditions
+pub mod Subscripts
+pub mod Rows

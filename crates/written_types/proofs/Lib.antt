@@ -1,0 +1,2 @@
+pub mod WrittenLaws
+mod Whole

@@ -1,0 +1,4 @@
+pub mod Checks
+pub mod TypeNames
+pub mod Written
+pub mod TypeTexts
