@@ -2,5 +2,4 @@ pub mod ExprPieces
 pub mod Pages
 pub mod PartPieces
 pub mod QueryPieces
-pub mod ReadBack
 pub mod TreePieces
