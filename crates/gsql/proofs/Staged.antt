@@ -1,15 +1,11 @@
 -- What the stages answer, and how it is told.
-use Rattle.std.proofs.Common.{◌≡◌, ℕ, ◌≤◌, List, [], length, Option, None, Some, Result, Ok, Err, IfOk, ap, ◌∙◌, subst, sym, refl, inl, inr}
+use Rattle.std.proofs.Common.{◌≡◌, ◌≢◌, ℕ, ◌≤◌, List, [], length, Option, None, Some, Result, Ok, Err, IfOk, ap, ◌∙◌, subst, sym, refl, inl, inr}
 use Rattle.sql_types.specs.declared.sql_type.Named.{Named}
 use Rattle.sql_types.specs.declared.sql_type.SqlType.{SqlType}
 use Rattle.sql_types.specs.declared.rows.Rows.{Rows}
 use Rattle.sql_ast.specs.declared.query.Query.{Query}
 use Rattle.sql_catalog.specs.declared.entries.TableDef.{TableDef}
 use Rattle.sql_rules.specs.Typing.{TypeQuery, nothing_in_sight}
-use Rattle.sql_ast.specs.declared.token.Token.{Token}
-use Rattle.small_query.specs.Forms.{SmallOf, Refused}
-use Rattle.sql_ast.specs.declared.refusal.Refusal.{Refusal}
-use Rattle.sql_ast.specs.declared.refusal.Refusal.TheVariants as refused
 use Rattle.small_run.specs.Plans.{one}
 use Rattle.gsql_io.specs.Whole.{IsWholeOf}
 use Rattle.gsql.specs.declared.status.LimitName.{LimitName}
@@ -19,7 +15,7 @@ use Rattle.gsql.specs.declared.status.Status.{Status}
 use Rattle.gsql.specs.declared.status.Status.TheVariants as status
 use Rattle.gsql.specs.Counted.{Counted}
 use Rattle.gsql.specs.Report.{Inside, Outside, Report, Staged, Wrote, Ran}
-use Rattle.gsql.specs.Stages.{CatalogStage, NoQuery, OnTold, Stage, Within}
+use Rattle.gsql.specs.Stages.{CatalogStage, OnTold, Stage}
 use Rattle.gsql.specs.Told.{Tells}
 use Rattle.gsql.specs.Words.{asked}
 
@@ -42,13 +38,9 @@ ran words inside output error printed answer out err same report first second = 
 abbrev pub refuses : (A : Type 0) {E : Type 0} → E → Result A E
 refuses A e = Err e
 
--- the one query of these tokens has no type
-pub no_query : (table : TableDef) (tokens : List Token) (query : Query) → ((p q : Query) → SmallOf tokens p → SmallOf tokens q → p ≡ q) → SmallOf tokens query → Within query →
-    (broken : ℕ × ℕ) → TypeQuery (one table) query nothing_in_sight ≡ Err broken → NoQuery table tokens
-no_query table tokens query once small within broken untyped other also =
-    let same : other ≡ query = once other query also small in
-    let same_type : TypeQuery (one table) other nothing_in_sight ≡ TypeQuery (one table) query nothing_in_sight = ap (λ q. TypeQuery (one table) q nothing_in_sight) same in
-    (subst Within (sym same) within, λ columns typed. apart (sym typed ∙ same_type ∙ untyped))
+-- a query that typing refuses has no type
+pub untyped : (table : TableDef) (query : Query) (broken : ℕ × ℕ) → TypeQuery (one table) query nothing_in_sight ≡ Err broken → (columns : List (Named SqlType)) → TypeQuery (one table) query nothing_in_sight ≢ Ok columns
+untyped table query broken refused columns typed = apart (sym typed ∙ refused)
   where
     apart : {columns : List (Named SqlType)} {broken : ℕ × ℕ} → Ok columns ≡ Err broken → ⊥
     apart e = cc
@@ -90,10 +82,6 @@ reported words inside catalog query answer asks stage counted ending out err tel
 pub if_ok : {A E : Type 0} {P Q : A → Type 0} (r : Result A E) → ((a : A) → P a → Q a) → IfOk r P → IfOk r Q
 if_ok (Ok a) more held = more a held
 if_ok (Err e) more held = held
-
--- a refusal by a rule says that there is no small query
-pub none_refused : (tokens : List Token) (refusal : Refusal) (rule place : ℕ) → refusal ≡ refused.Rule rule place → Refused (SmallOf tokens) refusal → (query : Query) → SmallOf tokens query → ⊥
-none_refused tokens refusal rule place is said query small = (subst (λ r. Refused (SmallOf tokens) r) is said).2 query small
 
 -- what is said of these bytes is said of the file whose whole content they are
 pub on_told : (content : Option (List ℕ)) (bytes : List ℕ) → IsWholeOf content bytes → (P : List ℕ → Type 0) → P bytes → OnTold content P

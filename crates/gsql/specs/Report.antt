@@ -63,7 +63,7 @@ abbrev pub Report : List (List ℕ) → Inside → Status → List ℕ → List 
 -- the rows of the answer
 Report words inside (status.Done tree) out err =
     (answer : Rows) × Staged (asked words) inside (Ok answer) × (tree ≡ []) × (out ≡ RowsText answer.columns answer.rows) × (err ≡ []) × (inside.after ≡ inside.before)
--- a query without tokens is rule 1 at its place; another form of catalog or query is rule 2
+-- a query whose text the grammar gives no tree is rule 1 at its place; another form of catalog or query is rule 2
 Report words inside (status.Refused rule place) out err =
     (((rule ≡ 1) × Staged (asked words) inside (Err (stop.Unread place))) ⊎ ((rule ≡ 2) × (place ≡ 0) × Staged (asked words) inside (Err stop.OtherForm)))
     × (out ≡ []) × (err ≡ refused_line rule place) × (inside.after ≡ inside.before)

@@ -1,5 +1,6 @@
 -- What each stage of a run answers: the catalog, then the query with its tokens, then the table and its evaluation.
 use Rattle.std.specs.Prelude.{◌≡◌, ◌≢◌, ◌⊎◌, ℕ, ◌<◌, ◌≤◌, List, [], ◌∷◌, length, Option, Some, None, Result, Ok, Err}
+use Rattle.fronts.specs.Texts.{Spells}
 use Rattle.sql_types.specs.declared.sql_type.Named.{Named}
 use Rattle.sql_types.specs.declared.sql_type.SqlType.{SqlType}
 use Rattle.sql_types.specs.declared.value.Value.{Value}
@@ -9,13 +10,14 @@ use Rattle.sql_catalog.specs.declared.entries.TableDef.{TableDef}
 use Rattle.sql_rules.specs.Typing.{TypeQuery, nothing_in_sight}
 use Rattle.sql_rules.specs.Meaning.{Permits}
 use Rattle.small_catalog.specs.Catalogs.{catalog_of}
-use Rattle.small_query.specs.Forms.{SmallOf}
 use Rattle.sql_ast.specs.declared.token.Token.{Token}
 use Rattle.sql_ast.specs.Depths.{Depth}
+use Rattle.sql_ast.specs.Grammar.{TextOf}
 use Rattle.sql_ast.specs.Nest.{nest}
 use Rattle.sql_ast.specs.Tokens.{TokensOf}
 use Rattle.sql_ast.specs.Weights.{Weight}
 use Rattle.csv_tables.specs.Tables.{TableOf}
+use Rattle.parse_query.specs.QueryTexts.{NothingOf}
 use Rattle.small_run.specs.Plans.{one}
 use Rattle.gsql.specs.declared.stop.Stop.{Stop}
 use Rattle.gsql.specs.declared.stop.Stop.TheVariants.{BadTable, Unread, OtherForm, Limit, ReadFault, OutOfMemory}
@@ -73,26 +75,26 @@ Exceeds limit.Depth query = deep < Depth query
 Exceeds limit.Weight query = (Depth query ≤ deep) × (heavy < Weight query)
 Exceeds _ query = ⊥
 
--- the tokens are a small query within the limits, which has a type over the table
+-- the tokens are a query and no other, within the limits, which has a type over the table
 abbrev pub IsQuery : TableDef → List Token → Query → Type 0
-IsQuery table tokens query = SmallOf tokens query × Within query × ((columns : List (Named SqlType)) × (TypeQuery (one table) query nothing_in_sight ≡ Ok columns))
+IsQuery table tokens query = Spells TextOf tokens query × Within query × ((columns : List (Named SqlType)) × (TypeQuery (one table) query nothing_in_sight ≡ Ok columns))
 
--- the tokens are no small query, or one within the limits that has no type over the table
-abbrev pub NoQuery : TableDef → List Token → Type 0
-NoQuery table tokens = (query : Query) → SmallOf tokens query → Within query × ((columns : List (Named SqlType)) → TypeQuery (one table) query nothing_in_sight ≢ Ok columns)
+-- they are a query and no other, within the limits, which has no type over the table
+abbrev pub IsUntyped : TableDef → List Token → Query → Type 0
+IsUntyped table tokens query = Spells TextOf tokens query × Within query × ((columns : List (Named SqlType)) → TypeQuery (one table) query nothing_in_sight ≢ Ok columns)
 
--- what the tokens of a query say: a query, and then the table's stage answers; a query above a limit; or no query of the form that
--- is taken
-abbrev pub TokensSaid : TableDef → (List ℕ → Option (List ℕ)) → Option (List ℕ) → List Token → Result Rows Stop → Type 0
-TokensSaid table content begun tokens (Ok answer) = (query : Query) × IsQuery table tokens query × TableStage table query content begun (Ok answer)
-TokensSaid table content begun tokens (Err OtherForm) = NoQuery table tokens
-TokensSaid table content begun tokens (Err (BadTable row field)) = (query : Query) × IsQuery table tokens query × TableStage table query content begun (Err (BadTable row field))
-TokensSaid table content begun tokens (Err (Limit exceeded)) =
-    ((query : Query) × SmallOf tokens query × Exceeds exceeded query)
+-- What the tokens of a query say, whose text ends at this byte: a query, and then the table's stage answers; a query above a
+-- limit; a query that has no type; or no query, with the place of the first token that no query can have there.
+abbrev pub TokensSaid : TableDef → (List ℕ → Option (List ℕ)) → Option (List ℕ) → ℕ → List Token → Result Rows Stop → Type 0
+TokensSaid table content begun end tokens (Ok answer) = (query : Query) × IsQuery table tokens query × TableStage table query content begun (Ok answer)
+TokensSaid table content begun end tokens (Err OtherForm) = (query : Query) × IsUntyped table tokens query
+TokensSaid table content begun end tokens (Err (BadTable row field)) = (query : Query) × IsQuery table tokens query × TableStage table query content begun (Err (BadTable row field))
+TokensSaid table content begun end tokens (Err (Limit exceeded)) =
+    ((query : Query) × Spells TextOf tokens query × Exceeds exceeded query)
     ⊎ ((query : Query) × IsQuery table tokens query × TableStage table query content begun (Err (Limit exceeded)))
-TokensSaid table content begun tokens (Err (ReadFault file)) = (query : Query) × IsQuery table tokens query × TableStage table query content begun (Err (ReadFault file))
-TokensSaid table content begun tokens (Err (Unread place)) = ⊥
-TokensSaid table content begun tokens (Err OutOfMemory) = Unit {0}
+TokensSaid table content begun end tokens (Err (ReadFault file)) = (query : Query) × IsQuery table tokens query × TableStage table query content begun (Err (ReadFault file))
+TokensSaid table content begun end tokens (Err (Unread place)) = NothingOf TextOf end tokens place
+TokensSaid table content begun end tokens (Err OutOfMemory) = Unit {0}
 
 -- the text has tokens, whose brackets nest within the limit, and this is said of them
 abbrev pub OnTokens : List ℕ → (List Token → Type 0) → Type 0
@@ -102,15 +104,16 @@ OnTokens bytes P = (tokens : List Token) × TokensOf bytes (Ok tokens) × (nest 
 abbrev pub NestsAbove : List ℕ → Type 0
 NestsAbove bytes = (tokens : List Token) × TokensOf bytes (Ok tokens) × (nested < nest tokens)
 
--- what the bytes of a query say: no tokens, brackets above the limit, or what the tokens say
+-- what the bytes of a query say: where they have no tokens, the place of the fault; brackets above the limit; or what the
+-- tokens say
 abbrev pub QuerySaid : TableDef → (List ℕ → Option (List ℕ)) → Option (List ℕ) → List ℕ → Result Rows Stop → Type 0
-QuerySaid table content begun bytes (Ok answer) = OnTokens bytes (λ tokens. TokensSaid table content begun tokens (Ok answer))
-QuerySaid table content begun bytes (Err (Unread place)) = TokensOf bytes (Err place)
-QuerySaid table content begun bytes (Err OtherForm) = OnTokens bytes (λ tokens. TokensSaid table content begun tokens (Err OtherForm))
-QuerySaid table content begun bytes (Err (BadTable row field)) = OnTokens bytes (λ tokens. TokensSaid table content begun tokens (Err (BadTable row field)))
+QuerySaid table content begun bytes (Ok answer) = OnTokens bytes (λ tokens. TokensSaid table content begun (length bytes) tokens (Ok answer))
+QuerySaid table content begun bytes (Err (Unread place)) = TokensOf bytes (Err place) ⊎ OnTokens bytes (λ tokens. TokensSaid table content begun (length bytes) tokens (Err (Unread place)))
+QuerySaid table content begun bytes (Err OtherForm) = OnTokens bytes (λ tokens. TokensSaid table content begun (length bytes) tokens (Err OtherForm))
+QuerySaid table content begun bytes (Err (BadTable row field)) = OnTokens bytes (λ tokens. TokensSaid table content begun (length bytes) tokens (Err (BadTable row field)))
 QuerySaid table content begun bytes (Err (Limit exceeded)) =
-    ((exceeded ≡ limit.Nest) × NestsAbove bytes) ⊎ OnTokens bytes (λ tokens. TokensSaid table content begun tokens (Err (Limit exceeded)))
-QuerySaid table content begun bytes (Err (ReadFault file)) = OnTokens bytes (λ tokens. TokensSaid table content begun tokens (Err (ReadFault file)))
+    ((exceeded ≡ limit.Nest) × NestsAbove bytes) ⊎ OnTokens bytes (λ tokens. TokensSaid table content begun (length bytes) tokens (Err (Limit exceeded)))
+QuerySaid table content begun bytes (Err (ReadFault file)) = OnTokens bytes (λ tokens. TokensSaid table content begun (length bytes) tokens (Err (ReadFault file)))
 QuerySaid table content begun bytes (Err OutOfMemory) = Unit {0}
 
 -- the query file is number 1, and has at most 1,048,576 bytes

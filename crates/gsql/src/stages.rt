@@ -1,6 +1,7 @@
 //! The stages of a run: the catalog, the query, and the table with its evaluation.
 ghost use Rattle.std.specs.Prelude.{◌≡◌};
-ghost use Rattle.small_query.specs.Forms.{SmallOf};
+ghost use Rattle.fronts.specs.Texts.{Spells};
+ghost use Rattle.sql_ast.specs.Grammar.{TextOf};
 ghost use Rattle.small_run.specs.Plans.{Plans};
 ghost use Rattle.gsql.specs.Stages as stage;
 ghost use Rattle.gsql.specs.Counted.{Counted};
@@ -11,12 +12,12 @@ use crate::status::LimitName;
 use crate::stop::Stop;
 use csv_tables::{TableRefusal, read_table};
 use gsql_io::{Bytes, Inputs, ReadRefusal, read_file};
+use parse_query::parse_tokens;
 use small_catalog::{CatalogRefusal, read_catalog};
-use small_query::read_query;
 use small_run::{NoPlan, Plan, plan, run};
-use sql_ast::{Query, Refusal, Token};
+use sql_ast::{Query, Refusal};
 use sql_catalog::TableDef;
-use sql_lexer::{LexFault, lex, nest};
+use sql_lexer::{LexFault, Tokens, lex, nest};
 use sql_measures::{depth, weight};
 use sql_types::Rows;
 use std::alloc::Global;
@@ -117,15 +118,14 @@ fn query_planned<I: Inputs>(
     alloc: Global,
     inputs: &mut I,
     table: &TableDef,
-    tokens: &[Token],
+    tokens: &Tokens,
     query: &Query,
 ) -> Result<Rows, Stop>
-    requires small { SmallOf tokens.now query.now }
+    requires spells { Spells TextOf tokens.now.list query.now }
     requires within { stage.Within query.now }
-    ensures said { stage.TokensSaid table.now (I.content inputs.old) (I.begun inputs.new) tokens.now result }
+    ensures said { stage.TokensSaid table.now (I.content inputs.old) (I.begun inputs.new) tokens.now.end tokens.now.list result }
     ensures counted { Counted (I.faults inputs.old) (I.faults inputs.new) (I.broken inputs.new) result }
 {
-    small_query::laws::once();
     match plan(alloc, table, query) {
         Ok(plan) => table_stage(alloc, inputs, table, query, &plan),
         Err(NoPlan::OtherForm) => Err(Stop::OtherForm),
@@ -138,11 +138,11 @@ fn query_measured<I: Inputs>(
     alloc: Global,
     inputs: &mut I,
     table: &TableDef,
-    tokens: &[Token],
+    tokens: &Tokens,
     query: &Query,
 ) -> Result<Rows, Stop>
-    requires { SmallOf tokens.now query.now }
-    ensures said { stage.TokensSaid table.now (I.content inputs.old) (I.begun inputs.new) tokens.now result }
+    requires { Spells TextOf tokens.now.list query.now }
+    ensures said { stage.TokensSaid table.now (I.content inputs.old) (I.begun inputs.new) tokens.now.end tokens.now.list result }
     ensures counted { Counted (I.faults inputs.old) (I.faults inputs.new) (I.broken inputs.new) result }
 {
     match exceeded(query) {
@@ -151,19 +151,19 @@ fn query_measured<I: Inputs>(
     }
 }
 
-// Reads tokens of the form that is taken as a query, and goes on to its table.
+// Reads tokens as a query, and goes on to its table.
 fn tokens_said<I: Inputs>(
     alloc: Global,
     inputs: &mut I,
     table: &TableDef,
-    tokens: &[Token],
+    tokens: &Tokens,
 ) -> Result<Rows, Stop>
-    ensures said { stage.TokensSaid table.now (I.content inputs.old) (I.begun inputs.new) tokens.now result }
+    ensures said { stage.TokensSaid table.now (I.content inputs.old) (I.begun inputs.new) tokens.now.end tokens.now.list result }
     ensures counted { Counted (I.faults inputs.old) (I.faults inputs.new) (I.broken inputs.new) result }
 {
-    match read_query(alloc, tokens) {
-        Ok(query) => query_measured(alloc, inputs, table, tokens, &query),
-        Err(Refusal::Rule { .. }) => Err(Stop::OtherForm),
+    match parse_tokens(alloc, tokens) {
+        Ok(query) => query_measured(alloc, inputs, table, tokens, query.get()),
+        Err(Refusal::Rule { place, .. }) => Err(Stop::Unread(place)),
         Err(Refusal::OutOfMemory) => Err(Stop::OutOfMemory),
     }
 }
@@ -179,9 +179,7 @@ fn query_said<I: Inputs>(
     ensures counted { Counted (I.faults inputs.old) (I.faults inputs.new) (I.broken inputs.new) result }
 {
     match lex(alloc, bytes) {
-        Ok(tokens) if nest(&tokens) <= NEST => {
-            tokens_said(alloc, inputs, table, tokens.as_slice())
-        }
+        Ok(tokens) if nest(&tokens) <= NEST => { tokens_said(alloc, inputs, table, &tokens) }
         Ok(_) => Err(Stop::Limit(LimitName::Nest)),
         Err(LexFault::At { place }) => Err(Stop::Unread(place)),
         Err(LexFault::OutOfMemory) => Err(Stop::OutOfMemory),

@@ -108,7 +108,7 @@ fn rows(rt: HostRuntime) -> Result<(), Fail> {
 #[test]
 fn refusals(rt: HostRuntime) -> Result<(), Fail> {
     let alloc = rt.alloc();
-    let table: [(&[u8], &[u8]); 7] = [
+    let table: [(&[u8], &[u8]); 13] = [
         (b"SELECT a FROM t WHERE z = 2", b"REFUSED 2 0\n"),
         (b"SELECT a FROM t", b"REFUSED 2 0\n"),
         (b"SELECT t FROM t WHERE a = 2", b"REFUSED 2 0\n"),
@@ -116,6 +116,12 @@ fn refusals(rt: HostRuntime) -> Result<(), Fail> {
         (b"SELECT a FROM q WHERE a = 2", b"REFUSED 2 0\n"),
         (b"SELECT 'abc", b"REFUSED 1 7\n"),
         (b"SELECT 1 /*", b"REFUSED 1 9\n"),
+        (b"SELECT 1;;", b"REFUSED 1 9\n"),
+        (b"", b"REFUSED 1 0\n"),
+        (b"SELECT a FROM t,", b"REFUSED 1 16\n"),
+        (b"SELECT a FROM t, t FULL JOIN t ON TRUE", b"REFUSED 1 19\n"),
+        (b"SELECT (a + 1", b"REFUSED 1 13\n"),
+        (b"SELECT a IN ((SELECT 1)) FROM t", b"REFUSED 2 0\n"),
     ];
     for (query, line) in table {
         let ended = run_query(alloc, query, TABLE)?;
@@ -144,25 +150,31 @@ fn bad_tables(rt: HostRuntime) -> Result<(), Fail> {
     Ok(())
 }
 
-// `SELECT`, a space, and this bracket so many times.
-fn brackets(alloc: Global, count: usize) -> Result<Bytes, AllocError> {
+// `SELECT`, a space, this part so many times, and an end.
+fn repeated(alloc: Global, part: &[u8], count: usize, end: &[u8]) -> Result<Bytes, AllocError> {
     let mut text = Vec::from_slice(alloc, b"SELECT ")?;
     for _ in 0..count {
-        text.push(b'(')?;
+        text.extend_from_slice(part)?;
     }
+    text.extend_from_slice(end)?;
     Ok(Items::from_vec(text))
 }
 
 #[test]
 fn limits(rt: HostRuntime) -> Result<(), Fail> {
     let alloc = rt.alloc();
-    let table: [(usize, &[u8], u8); 3] = [
-        (200, b"REFUSED 2 0\n", 1),
-        (201, b"LIMIT Nest\n", 6),
-        (1_048_570, b"LIMIT QueryBytes\n", 6),
+    let table: [(&[u8], usize, &[u8], &[u8], u8); 7] = [
+        (b"(", 200, b"", b"REFUSED 1 207\n", 1),
+        (b"(", 201, b"", b"LIMIT Nest\n", 6),
+        (b"(", 1_048_570, b"", b"LIMIT QueryBytes\n", 6),
+        (b"NOT ", 389, b"TRUE", b"REFUSED 2 0\n", 1),
+        (b"NOT ", 390, b"TRUE", b"LIMIT Depth\n", 6),
+        (b"1, ", 99_998, b"1", b"REFUSED 2 0\n", 1),
+        (b"1, ", 99_999, b"1", b"LIMIT Weight\n", 6),
     ];
-    for (count, line, code) in table {
-        let ended = run_query(alloc, brackets(alloc, count)?.as_slice(), TABLE)?;
+    for (part, count, end, line, code) in table {
+        let query = repeated(alloc, part, count, end)?;
+        let ended = run_query(alloc, query.as_slice(), TABLE)?;
         assert_eq!(rt; ended.out.bytes(), b"".as_slice());
         assert_eq!(rt; ended.err.bytes(), line);
         assert_eq!(rt; ended.code, code);

@@ -1,0 +1,4 @@
+pub mod Depths
+pub mod Inside
+pub mod SetWords
+pub mod Whole
