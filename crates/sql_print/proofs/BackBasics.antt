@@ -1,7 +1,6 @@
 -- Basic expressions are spelled by the tokens of their prints, if the expressions, types and queries in them are.
-use Rattle.std.proofs.Common.{◌≡◌, ℕ, suc, ◌<◌, ◌≤◌, Bool, true, false, List, [], ◌∷◌, ◌++◌, length, map, Option, Some, None, option_map, refl, sym, ◌∙◌, ap, subst, arith}
+use Rattle.std.proofs.Common.{◌≡◌, ℕ, suc, ◌<◌, true, false, List, [], ◌∷◌, ◌++◌, length, map, Some, None, refl, sym, ◌∙◌, ap, subst, arith}
 use Rattle.std.proofs.lemmas.List.{length-append, append_assoc}
-use Rattle.sql_names.specs.declared.words.Reserved.{Reserved}
 use Rattle.sql_names.specs.declared.words.Reserved.TheVariants as r
 use Rattle.sql_ast.specs.declared.words.Sign.TheVariants as s
 use Rattle.sql_ast.specs.declared.words.Word.TheVariants as keyword
@@ -13,25 +12,21 @@ use Rattle.sql_ast.specs.declared.clauses.Binding.{Binding}
 use Rattle.sql_ast.specs.declared.clauses.Call.{Call}
 use Rattle.sql_ast.specs.declared.clauses.Function.{Function}
 use Rattle.sql_ast.specs.declared.clauses.Function.TheVariants as function
-use Rattle.sql_ast.specs.declared.clauses.Name.{Name}
-use Rattle.sql_ast.specs.declared.clauses.When.{When}
-use Rattle.sql_ast.specs.declared.expr.Expr.{Expr, out-Expr}
+use Rattle.sql_ast.specs.declared.expr.Expr.{Expr}
 use Rattle.sql_ast.specs.declared.expr.Expr.TheVariants as e
 use Rattle.sql_ast.specs.declared.expr.Expr.TheOpen as ast
 use Rattle.sql_ast.specs.declared.query.Query.{Query}
-use Rattle.sql_ast.specs.declared.type_spelling.TypeField.{TypeField}
-use Rattle.sql_ast.specs.declared.type_spelling.TypeSpelling.{TypeSpelling}
-use Rattle.sql_ast.specs.Marks.{Tokens, Is, Says, reserved, sign as sign_test, word as word_test, named, name_lexeme, integer_lexeme, number, number_lexeme, text_lexeme, bytes_lexeme, parameter_lexeme, content, content_lexeme, spelled, spelled_lexeme}
-use Rattle.sql_ast.specs.Trees.{name_at, function_of, function_lexeme}
+use Rattle.sql_ast.specs.Marks.{Tokens, Is, sign as sign_test, named, name_lexeme, integer_lexeme, number, number_lexeme, text_lexeme, bytes_lexeme, parameter_lexeme, content, content_lexeme, spelled, spelled_lexeme}
+use Rattle.sql_ast.specs.Trees.{name_at, function_lexeme}
 use Rattle.sql_ast.specs.Parts.{TypeOf, type_levels, FieldsOf}
 use Rattle.sql_ast.specs.Grammar.{ExprOf, QueryOf, ListOf, CallOf, call_is, ArrayItemsOf, BasicOf, basic_integer, basic_string, basic_bytes, basic_true, basic_false, basic_null, basic_date, basic_parameter, basic_name, basic_call, basic_safe_call, basic_group, basic_query, basic_tuple, basic_case, basic_cast, basic_safe_cast, basic_extract, basic_grouping, basic_exists, basic_array_query, basic_array, basic_array_word, basic_array_typed, basic_struct, basic_typed_struct, basic_with}
-use Rattle.sql_ast.specs.Pieces.{Piece, word, name, read_word, spaced, sign, bracketed, if_there, word_if_plain, spelled_word}
-use Rattle.sql_ast.specs.Canon.{function_piece, angled, canon_pieces, type_pieces}
-use Rattle.sql_same.specs.Bare.{as_is, bare_name, bare_function, bare_call, bare_field, bare_when, bare_aliased, bare_binding, BareExpr, BareType, BareQuery}
+use Rattle.sql_ast.specs.Pieces.{Piece, word, name, sign, bracketed, if_there, word_if_plain, spelled_word}
+use Rattle.sql_ast.specs.Canon.{function_piece, canon_pieces, type_pieces}
+use Rattle.sql_same.specs.Bare.{as_is, bare_call, bare_field, bare_aliased, bare_binding, BareExpr, BareType, BareQuery}
 use Rattle.sql_print.specs.PartPieces.{run, listed, call_pieces, field_pieces, when_pieces, aliased_pieces, binding_pieces}
 use Rattle.sql_print.specs.ExprPieces.{else_pieces}
 use Rattle.sql_print.specs.TreePieces.{expr_pieces}
-use Rattle.sql_print.proofs.Carried.{Carries, carries_none, carries_more, Found, Back, split, one, nothing, carry, in_four, is_reserved, is_sign, is_word, is_named}
+use Rattle.sql_print.proofs.Carried.{Carries, carries_more, Found, Back, split, one, nothing, carry, in_four, is_reserved, is_sign, is_word, is_named}
 use Rattle.sql_print.proofs.BackNames.{name_same}
 use Rattle.sql_print.proofs.BackTypes.{back_type, back_fields, angled_by}
 use Rattle.sql_print.proofs.BackLevels.{Level, Spelled}

@@ -1,26 +1,18 @@
 -- The print of each expression begins with brackets, of which it is known what they hold, or with another token.
-use Rattle.std.proofs.Common.{◌≡◌, ℕ, suc, ◌<◌, ◌≤◌, Bool, true, false, List, [], ◌∷◌, ◌++◌, length, map, Option, Some, None, refl, sym, ◌∙◌, ap, subst, arith}
+use Rattle.std.proofs.Common.{◌≡◌, ℕ, suc, ◌<◌, ◌≤◌, Bool, List, [], ◌∷◌, ◌++◌, length, refl, sym, ◌∙◌, ap, subst, arith}
 use Rattle.std.proofs.lemmas.List.{append_assoc, append-nil, length-append}
-use Rattle.sql_names.specs.declared.words.Reserved.TheVariants as r
-use Rattle.sql_ast.specs.declared.words.Sign.TheVariants as s
-use Rattle.sql_ast.specs.declared.words.Word.TheVariants as keyword
-use Rattle.sql_ast.specs.declared.token.Token.{Token}
-use Rattle.sql_ast.specs.declared.token.Lexeme.TheVariants as l
-use Rattle.sql_ast.specs.declared.expr.Expr.{Expr, out-Expr}
+use Rattle.sql_ast.specs.declared.expr.Expr.{Expr}
 use Rattle.sql_ast.specs.declared.expr.Expr.TheVariants as e
 use Rattle.sql_ast.specs.declared.expr.Expr.TheOpen as ast
 use Rattle.sql_ast.specs.declared.expr.Link.{Link}
-use Rattle.sql_ast.specs.declared.query.Query.{Query}
-use Rattle.sql_ast.specs.Marks.{Tokens, start_of, sign_lexeme, same_sign}
+use Rattle.sql_ast.specs.Marks.{Tokens, start_of}
 use Rattle.sql_ast.specs.Trees.{chain, nots, prefixes, path, alone}
-use Rattle.sql_ast.specs.Grammar.{ExprOf, expr_is, QueryOf, ListOf, ConjOf, conj_is, NegOf, neg_is, CompOf, comp_bor, comp_compare, comp_like, comp_like_list, comp_like_unnest, comp_between, comp_in_list, comp_in_query, comp_in_unnest, comp_is, comp_distinct, BorOf, bor_is, BxorOf, bxor_is, BandOf, band_is, ShiftOf, shift_is, SumOf, sum_is, ProdOf, prod_is, UnaryOf, unary_is, PostfixOf, postfix_is, BasicOf, basic_group, basic_tuple, basic_integer, basic_string, basic_bytes, basic_true, basic_false, basic_null, basic_date, basic_parameter, basic_name, basic_call, basic_safe_call, basic_query, basic_case, basic_cast, basic_safe_cast, basic_extract, basic_grouping, basic_exists, basic_array_query, basic_array, basic_array_word, basic_array_typed, basic_struct, basic_typed_struct, basic_with}
+use Rattle.sql_ast.specs.Grammar.{ExprOf, expr_is, ConjOf, conj_is, NegOf, neg_is, CompOf, comp_bor, comp_compare, comp_like, comp_like_list, comp_like_unnest, comp_between, comp_in_list, comp_in_query, comp_in_unnest, comp_is, comp_distinct, BorOf, bor_is, BxorOf, bxor_is, BandOf, band_is, ShiftOf, shift_is, SumOf, sum_is, ProdOf, prod_is, UnaryOf, unary_is, PostfixOf, postfix_is, BasicOf, basic_group, basic_tuple, basic_integer, basic_string, basic_bytes, basic_true, basic_false, basic_null, basic_date, basic_parameter, basic_name, basic_call, basic_safe_call, basic_query, basic_case, basic_cast, basic_safe_cast, basic_extract, basic_grouping, basic_exists, basic_array_query, basic_array, basic_array_word, basic_array_typed, basic_struct, basic_typed_struct, basic_with}
 use Rattle.sql_ast.specs.Pieces.{Piece, bracketed}
-use Rattle.sql_ast.specs.Canon.{function_piece, prefix_piece, canon_pieces, not_if}
-use Rattle.sql_same.specs.Bare.{as_is, BareExpr}
+use Rattle.sql_ast.specs.Canon.{canon_pieces, not_if}
 use Rattle.sql_print.specs.PartPieces.{run, listed, operand, link_pieces}
 use Rattle.sql_print.specs.TreePieces.{expr_level, expr_pieces}
 use Rattle.sql_print.proofs.CanonLaws.{pieces_at, pieces_expr}
-use Rattle.sql_print.proofs.Carried.{Back}
 use Rattle.sql_print.proofs.BackLevels.{Spelled}
 use Rattle.sql_print.proofs.BackLists.{Inner, back_list}
 use Rattle.sql_print.proofs.BackChains.{prod_spelled, sum_spelled, band_spelled, bxor_spelled, bor_spelled}

@@ -1,30 +1,26 @@
 -- Calls are spelled by the tokens of their prints, if the expressions in them are.
-use Rattle.std.proofs.Common.{◌≡◌, ℕ, suc, ◌<◌, ◌≤◌, Bool, true, false, List, [], ◌∷◌, ◌++◌, length, map, Option, Some, None, refl, sym, ◌∙◌, ap, subst, arith}
+use Rattle.std.proofs.Common.{◌≡◌, ℕ, suc, ◌<◌, Bool, true, false, List, [], ◌∷◌, ◌++◌, length, map, Some, refl, sym, ◌∙◌, ap, subst, arith}
 use Rattle.std.proofs.lemmas.List.{length-append, append_assoc}
 use Rattle.sql_names.specs.declared.words.Reserved.TheVariants as r
 use Rattle.sql_ast.specs.declared.words.Sign.TheVariants as s
 use Rattle.sql_ast.specs.declared.token.Token.{Token}
-use Rattle.sql_ast.specs.declared.token.Lexeme.{Lexeme}
 use Rattle.sql_ast.specs.declared.token.Lexeme.TheVariants as l
 use Rattle.sql_ast.specs.declared.clauses.Arg.{Arg}
 use Rattle.sql_ast.specs.declared.clauses.Arg.TheVariants as arg
 use Rattle.sql_ast.specs.declared.clauses.Call.{Call}
 use Rattle.sql_ast.specs.declared.clauses.Function.{Function}
 use Rattle.sql_ast.specs.declared.clauses.Function.TheVariants as function
-use Rattle.sql_ast.specs.declared.clauses.Name.{Name}
-use Rattle.sql_ast.specs.declared.clauses.NullsPart.{NullsPart}
 use Rattle.sql_ast.specs.declared.clauses.Sort.{Sort}
 use Rattle.sql_ast.specs.declared.expr.Expr.{Expr}
-use Rattle.sql_ast.specs.Marks.{Tokens, Is, Says, named, start_of}
+use Rattle.sql_ast.specs.Marks.{Tokens, Is, named, start_of}
 use Rattle.sql_ast.specs.Trees.{name_at, function_lexeme}
-use Rattle.sql_ast.specs.Parts.{DirectionOf, NullsPlaceOf, DistinctOf, NullsPartOf, CallLimitOf}
-use Rattle.sql_ast.specs.Grammar.{ExprOf, SortOf, sort_is, SortsOf, sorts_none, sorts_more, OrderOf, order_none, order_is, ArgOf, arg_expr, arg_lambda, arg_lambda_two, arg_interval, ArgsOf, args_none, args_more, ArgumentsOf, arguments_none, arguments_star, arguments_are, CallOf, call_is}
-use Rattle.sql_ast.specs.Pieces.{Piece, word, name, sign, after_commas, if_so, if_there, word_if_plain}
+use Rattle.sql_ast.specs.Grammar.{SortOf, sort_is, SortsOf, sorts_none, sorts_more, OrderOf, order_none, order_is, ArgOf, arg_expr, arg_lambda, arg_lambda_two, arg_interval, ArgsOf, args_none, args_more, ArgumentsOf, arguments_none, arguments_star, arguments_are, CallOf, call_is}
+use Rattle.sql_ast.specs.Pieces.{word, after_commas, if_so, if_there, word_if_plain}
 use Rattle.sql_ast.specs.Canon.{function_piece, nulls_place_pieces, nulls_part_pieces, call_limit}
-use Rattle.sql_same.specs.Bare.{as_is, bare_name, bare_names, bare_function, bare_sort, bare_argument, bare_call, BareExpr}
-use Rattle.sql_print.specs.PartPieces.{listed, sort_pieces, order_pieces, argument_pieces, star_or_arguments, inside_pieces, call_pieces}
+use Rattle.sql_same.specs.Bare.{as_is, bare_name, bare_function, bare_sort, bare_argument, bare_call, BareExpr}
+use Rattle.sql_print.specs.PartPieces.{sort_pieces, order_pieces, argument_pieces, star_or_arguments, call_pieces}
 use Rattle.sql_print.specs.TreePieces.{expr_pieces}
-use Rattle.sql_print.proofs.Carried.{Carries, carries_none, carries_more, Found, Back, split, one, nothing, carry, in_three, in_five, is_reserved, is_sign, is_named}
+use Rattle.sql_print.proofs.Carried.{Carries, carries_more, Found, Back, split, one, nothing, carry, in_three, in_five, is_reserved, is_sign, is_named}
 use Rattle.sql_print.proofs.BackNames.{name_same, back_direction, back_nulls_place, back_distinct, back_nulls_part, back_call_limit}
 use Rattle.sql_print.proofs.BackLists.{Inner}
 

@@ -1,18 +1,13 @@
 -- Chains of operators are spelled by the tokens of their prints, if their operands are.
-use Rattle.std.proofs.Common.{◌≡◌, ℕ, suc, ◌<◌, ◌≤◌, Bool, true, false, List, [], ◌∷◌, ◌++◌, length, map, Option, Some, None, refl, sym, ◌∙◌, ap, subst, arith}
+use Rattle.std.proofs.Common.{◌≡◌, ℕ, suc, ◌<◌, false, List, [], ◌∷◌, ◌++◌, length, map, refl, sym, ◌∙◌, ap, subst, arith}
 use Rattle.std.proofs.lemmas.List.{length-append}
 use Rattle.sql_names.specs.declared.words.Reserved.TheVariants as r
-use Rattle.sql_ast.specs.declared.words.Sign.{Sign}
 use Rattle.sql_ast.specs.declared.words.Sign.TheVariants as s
-use Rattle.sql_ast.specs.declared.token.Token.{Token}
-use Rattle.sql_ast.specs.declared.token.Lexeme.{Lexeme}
-use Rattle.sql_ast.specs.declared.token.Lexeme.TheVariants as l
 use Rattle.sql_ast.specs.declared.expr.Expr.{Expr, out-Expr}
 use Rattle.sql_ast.specs.declared.expr.Expr.TheVariants as e
 use Rattle.sql_ast.specs.declared.expr.Expr.TheOpen.{Expr-F}
 use Rattle.sql_ast.specs.declared.expr.Expr.TheOpen as ast
 use Rattle.sql_ast.specs.declared.expr.Link.{Link}
-use Rattle.sql_ast.specs.declared.expr.Operator.{Operator}
 use Rattle.sql_ast.specs.declared.expr.Operator.TheVariants as operator
 use Rattle.sql_ast.specs.declared.query.Primary.{Primary}
 use Rattle.sql_ast.specs.declared.query.Term.{Term}
@@ -20,19 +15,19 @@ use Rattle.sql_ast.specs.declared.query.FromItem.{FromItem}
 use Rattle.sql_ast.specs.declared.query.Joined.{Joined}
 use Rattle.sql_ast.specs.declared.query.Query.{Query}
 use Rattle.sql_ast.specs.declared.query.Select.{Select}
-use Rattle.sql_ast.specs.Marks.{Tokens, Is, Says, reserved, sign as sign_test, start_of}
-use Rattle.sql_ast.specs.Trees.{link, chain, is_subquery, subquery_layer, sum_of, sum_lexeme, sum_sign, product_of, product_lexeme, product_sign}
+use Rattle.sql_ast.specs.Marks.{Tokens, start_of}
+use Rattle.sql_ast.specs.Trees.{link, chain, is_subquery, subquery_layer, sum_lexeme, product_lexeme}
 use Rattle.sql_ast.specs.Grammar.{ExprOf, expr_is, OrsOf, ors_none, ors_more, ConjOf, conj_is, AndsOf, ands_none, ands_more, NegOf, BorOf, bor_is, BorsOf, bors_none, bors_more, BxorOf, bxor_is, BxorsOf, bxors_none, bxors_more, BandOf, band_is, BandsOf, bands_none, bands_more, ShiftOf, SumOf, sum_is, SumsOf, sums_none, sums_more, ProdOf, prod_is, ProdsOf, prods_none, prods_more, UnaryOf}
 use Rattle.sql_ast.specs.Pieces.{Piece}
-use Rattle.sql_ast.specs.Canon.{operator_piece, operator_pieces}
 use Rattle.sql_same.specs.Bare.{as_is, bare_link, BareExpr}
 use Rattle.sql_same.proofs.BareLaws.{expr_at as bare_at}
 use Rattle.sql_same.proofs.BareSame.{same_expr}
 use Rattle.sql_print.specs.PartPieces.{run, operand, link_pieces}
 use Rattle.sql_print.specs.TreePieces.{expr_level, expr_pieces}
 use Rattle.sql_print.proofs.CanonLaws.{level_at, pieces_at}
-use Rattle.sql_print.proofs.Carried.{Carries, Found, Back, split, one, nothing, is_reserved, is_sign, says}
+use Rattle.sql_print.proofs.Carried.{Carries, Found, Back, split, one, nothing, is_reserved, is_sign}
 use Rattle.sql_print.proofs.BackLevels.{Level, Spelled, spelled_at}
+use Rattle.sql_print.proofs.BackOperators.{sum_kept, sum_said, product_kept, product_said}
 
 abbrev bare : Expr → Expr
 bare = BareExpr as_is
@@ -79,57 +74,6 @@ module _ (k : ℕ) (low : k < 12) (make : Expr → List (Link Expr) → ℕ → 
                   (same f.tree a g.tree (l ∷ ls) (start_of u) p f.same g.same);
             });
       }))
-
--- ---- the operators of sums and of products
-
-never : {A : Type 0} → false ≡ true → A
-never h = absurd (let g : true ≡ false = sym h in cc)
-
-abbrev only_sum : Option Operator → Bool
-only_sum None = true
-only_sum (Some operator.Add) = true
-only_sum (Some operator.Subtract) = true
-only_sum (Some _) = false
-
-sum_signs : (y : Sign) → only_sum (sum_sign y) ≡ true
-sum_signs s.Plus = refl
-sum_signs _ = refl
-
-sum_lexemes : (x : Lexeme) → only_sum (sum_lexeme x) ≡ true
-sum_lexemes (l.Sign y) = sum_signs y
-sum_lexemes _ = refl
-
-sum_kept : (t : Token) (o : Operator) → Says sum_of t o → only_sum (Some o) ≡ true
-sum_kept t o i = ap only_sum (sym i.is) ∙ sum_lexemes t.lexeme
-
--- such an operator is printed as one sign, which says it
-sum_said : (o : Operator) → only_sum (Some o) ≡ true → (operator_pieces o ≡ operator_piece o ∷ []) × (sum_lexeme (operator_piece o).lexeme ≡ Some o)
-sum_said operator.Add h = (refl, refl)
-sum_said operator.Subtract h = (refl, refl)
-sum_said _ h = never h
-
-abbrev only_product : Option Operator → Bool
-only_product None = true
-only_product (Some operator.Multiply) = true
-only_product (Some operator.Concat) = true
-only_product (Some _) = false
-
-product_signs : (y : Sign) → only_product (product_sign y) ≡ true
-product_signs s.Star = refl
-product_signs _ = refl
-
-product_lexemes : (x : Lexeme) → only_product (product_lexeme x) ≡ true
-product_lexemes (l.Sign y) = product_signs y
-product_lexemes _ = refl
-
-product_kept : (t : Token) (o : Operator) → Says product_of t o → only_product (Some o) ≡ true
-product_kept t o i = ap only_product (sym i.is) ∙ product_lexemes t.lexeme
-
--- such an operator is printed as one sign, which says it
-product_said : (o : Operator) → only_product (Some o) ≡ true → (operator_pieces o ≡ operator_piece o ∷ []) × (product_lexeme (operator_piece o).lexeme ≡ Some o)
-product_said operator.Multiply h = (refl, refl)
-product_said operator.Concat h = (refl, refl)
-product_said _ h = never h
 
 -- ---- links of each level
 

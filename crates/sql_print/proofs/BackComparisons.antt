@@ -1,23 +1,21 @@
 -- NOT and comparisons are spelled by the tokens of their prints, if their operands are.
-use Rattle.std.proofs.Common.{◌≡◌, ℕ, suc, ◌<◌, ◌≤◌, Bool, true, false, List, [], ◌∷◌, ◌++◌, length, map, Option, Some, None, refl, sym, ◌∙◌, ap, subst, arith}
+use Rattle.std.proofs.Common.{◌≡◌, ℕ, suc, ◌<◌, List, [], ◌∷◌, ◌++◌, length, map, Some, refl, ◌∙◌, ap, arith}
 use Rattle.std.proofs.lemmas.List.{length-append}
 use Rattle.sql_names.specs.declared.words.Reserved.TheVariants as r
 use Rattle.sql_ast.specs.declared.words.Sign.TheVariants as s
 use Rattle.sql_ast.specs.declared.token.Token.{Token}
-use Rattle.sql_ast.specs.declared.token.Lexeme.TheVariants as l
 use Rattle.sql_ast.specs.declared.expr.Comparison.{Comparison}
 use Rattle.sql_ast.specs.declared.expr.Comparison.TheVariants as comparison
 use Rattle.sql_ast.specs.declared.expr.Quantifier.{Quantifier}
 use Rattle.sql_ast.specs.declared.expr.Quantifier.TheVariants as quantifier
 use Rattle.sql_ast.specs.declared.expr.IsTest.{IsTest}
 use Rattle.sql_ast.specs.declared.expr.IsTest.TheVariants as test
-use Rattle.sql_ast.specs.declared.expr.Expr.{Expr, out-Expr}
+use Rattle.sql_ast.specs.declared.expr.Expr.{Expr}
 use Rattle.sql_ast.specs.declared.expr.Expr.TheVariants as e
 use Rattle.sql_ast.specs.declared.expr.Expr.TheOpen.{Expr-F}
 use Rattle.sql_ast.specs.declared.expr.Expr.TheOpen as ast
-use Rattle.sql_ast.specs.declared.query.Query.{Query}
-use Rattle.sql_ast.specs.Marks.{Tokens, Is, Says, reserved, sign as sign_test, start_of}
-use Rattle.sql_ast.specs.Trees.{comparison_lexeme, quantifier_lexeme, test_lexeme, nots, alone}
+use Rattle.sql_ast.specs.Marks.{Tokens, Is, reserved, sign as sign_test, start_of}
+use Rattle.sql_ast.specs.Trees.{comparison_lexeme, quantifier_lexeme, test_lexeme, nots}
 use Rattle.sql_ast.specs.Parts.{NotsOf, nots_none, nots_more}
 use Rattle.sql_ast.specs.Grammar.{ExprOf, QueryOf, ListOf, NegOf, neg_is, BorOf, CompOf, comp_bor, comp_compare, comp_like, comp_like_list, comp_like_unnest, comp_between, comp_in_list, comp_in_query, comp_in_unnest, comp_is, comp_distinct}
 use Rattle.sql_ast.specs.Pieces.{Piece, word, bracketed}
@@ -26,7 +24,7 @@ use Rattle.sql_same.specs.Bare.{as_is, BareExpr, BareQuery}
 use Rattle.sql_print.specs.PartPieces.{listed, operand}
 use Rattle.sql_print.specs.TreePieces.{expr_level, expr_pieces}
 use Rattle.sql_print.specs.ExprPieces.{worded}
-use Rattle.sql_print.proofs.Carried.{Carries, carries_none, carries_more, Found, Back, split, one, nothing, carry, in_three, is_reserved, is_sign}
+use Rattle.sql_print.proofs.Carried.{Carries, Found, Back, split, one, nothing, carry, in_three, is_reserved}
 use Rattle.sql_print.proofs.BackLevels.{Level, Spelled}
 use Rattle.sql_print.proofs.BackLists.{Inner, node, found, negatable, is_or_not, enclosed, back_list, alone_same}
 

@@ -1,5 +1,5 @@
 -- What follows FROM is spelled by the tokens of its print, if the expressions and queries in it are.
-use Rattle.std.proofs.Common.{◌≡◌, ℕ, suc, ◌<◌, ◌≤◌, Bool, true, false, List, [], ◌∷◌, ◌++◌, length, map, Option, Some, None, option_map, refl, sym, ◌∙◌, ap, subst, arith}
+use Rattle.std.proofs.Common.{◌≡◌, ℕ, suc, ◌<◌, List, [], ◌∷◌, ◌++◌, length, map, Option, Some, None, option_map, refl, sym, ◌∙◌, ap, subst, arith}
 use Rattle.std.proofs.lemmas.List.{length-append, append_assoc}
 use Rattle.sql_names.specs.declared.words.Reserved.TheVariants as fixed
 use Rattle.sql_ast.specs.declared.words.Sign.TheVariants as mark
@@ -7,15 +7,12 @@ use Rattle.sql_ast.specs.declared.words.Word.TheVariants as keyword
 use Rattle.sql_ast.specs.declared.token.Token.{Token}
 use Rattle.sql_ast.specs.declared.token.Lexeme.TheVariants as l
 use Rattle.sql_ast.specs.declared.clauses.Aliased.{Aliased}
-use Rattle.sql_ast.specs.declared.clauses.Name.{Name}
 use Rattle.sql_ast.specs.declared.clauses.On.{On}
 use Rattle.sql_ast.specs.declared.clauses.On.TheVariants as on
 use Rattle.sql_ast.specs.declared.clauses.PivotCall.{PivotCall}
 use Rattle.sql_ast.specs.declared.clauses.Turn.{Turn}
 use Rattle.sql_ast.specs.declared.clauses.Turn.TheVariants as turn
 use Rattle.sql_ast.specs.declared.clauses.Turned.{Turned}
-use Rattle.sql_ast.specs.declared.clauses.UnpivotColumn.{UnpivotColumn}
-use Rattle.sql_ast.specs.declared.clauses.WithOffset.{WithOffset}
 use Rattle.sql_ast.specs.declared.expr.Expr.{Expr}
 use Rattle.sql_ast.specs.declared.expr.Expr.TheOpen.{Primary-F, Joined-F}
 use Rattle.sql_ast.specs.declared.expr.Expr.TheOpen as ast
@@ -28,17 +25,16 @@ use Rattle.sql_ast.specs.declared.query.Select.{Select}
 use Rattle.sql_ast.specs.declared.query.Term.{Term}
 use Rattle.sql_ast.specs.Marks.{Tokens, Is}
 use Rattle.sql_ast.specs.Trees.{name_at}
-use Rattle.sql_ast.specs.Parts.{NameDotsOf, name_dots_more, PlaceOf, FromAliasOf, UnpivotColumnOf, UnpivotCommasOf}
 use Rattle.sql_ast.specs.Grammar.{ExprOf, QueryOf, OnOf, on_expr, on_using, PrimaryOf, primary_table, primary_query, primary_path, primary_unnest, TurnedOf, turned_none, turned_is, TurnOf, turn_pivot, turn_unpivot, PivotCallOf, pivot_call, PivotCallsOf, pivot_calls_none, pivot_calls_more, PivotValueOf, pivot_value, PivotValuesOf, pivot_values_none, pivot_values_more}
-use Rattle.sql_ast.specs.Pieces.{Piece, word, name, read_word, sign, bracketed, after_commas, if_there, word_if_plain, spelled_word}
-use Rattle.sql_ast.specs.Canon.{canon_pieces, alias_pieces, dots, path_pieces, offset_pieces, names_list}
-use Rattle.sql_same.specs.Bare.{as_is, bare_name, bare_names, bare_alias, bare_aliased, bare_on, bare_pivot_call, bare_turn, bare_turned, bare_column, bare_offset, BareExpr, BareQuery, BarePrimary}
-use Rattle.sql_same.proofs.BareLaws.{primary_at as bare_at}
+use Rattle.sql_ast.specs.Pieces.{word, bracketed, after_commas, if_there, word_if_plain, spelled_word}
+use Rattle.sql_ast.specs.Canon.{canon_pieces, alias_pieces, path_pieces, offset_pieces}
+use Rattle.sql_same.specs.Bare.{as_is, bare_name, bare_aliased, bare_on, bare_pivot_call, bare_turn, bare_turned, BareExpr, BareQuery, BarePrimary}
 use Rattle.sql_same.proofs.BareSame.{same_primary}
-use Rattle.sql_print.specs.PartPieces.{listed, on_pieces, pivot_call_pieces, aliased_pieces, turn_pieces, turned_pieces}
+use Rattle.sql_print.specs.PartPieces.{on_pieces, pivot_call_pieces, aliased_pieces, turn_pieces, turned_pieces}
 use Rattle.sql_print.specs.TreePieces.{expr_pieces, primary_pieces}
-use Rattle.sql_print.proofs.CanonLaws.{primary_at, print_primary}
-use Rattle.sql_print.proofs.Carried.{Carries, carries_none, carries_more, Found, Back, split, one, nothing, carry, in_three, is_reserved, is_sign, is_word, is_named}
+use Rattle.sql_print.proofs.CanonFroms.{primary_at}
+use Rattle.sql_print.proofs.CanonLaws.{print_primary}
+use Rattle.sql_print.proofs.Carried.{Carries, Found, Back, split, one, nothing, carry, in_three, is_reserved, is_sign, is_word, is_named}
 use Rattle.sql_print.proofs.BackNames.{name_same, back_alias, back_from_alias, back_dots, back_names, back_place, back_include, back_column, back_columns}
 use Rattle.sql_print.proofs.BackLists.{Inner, enclosed}
 use Rattle.sql_print.proofs.BackCalls.{back_call}

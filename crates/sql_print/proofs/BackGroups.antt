@@ -1,5 +1,5 @@
 -- What follows GROUP BY is spelled by the tokens of its print; and so is each query.
-use Rattle.std.proofs.Common.{◌≡◌, ℕ, suc, ◌<◌, ◌≤◌, Bool, true, false, List, [], ◌∷◌, ◌++◌, length, map, Option, Some, None, option_map, refl, sym, ◌∙◌, ap, subst, arith}
+use Rattle.std.proofs.Common.{◌≡◌, ℕ, suc, ◌<◌, Bool, true, false, List, [], ◌∷◌, ◌++◌, length, map, Option, Some, None, option_map, refl, sym, ◌∙◌, ap, subst, arith}
 use Rattle.std.proofs.lemmas.List.{length-append, append_assoc}
 use Rattle.sql_names.specs.declared.words.Reserved.TheVariants as r
 use Rattle.sql_ast.specs.declared.words.Sign.TheVariants as s
@@ -16,16 +16,16 @@ use Rattle.sql_ast.specs.declared.grouping.GroupSet.TheVariants as group_set
 use Rattle.sql_ast.specs.declared.grouping.Groups.{Groups}
 use Rattle.sql_ast.specs.declared.grouping.Groups.TheVariants as groups
 use Rattle.sql_ast.specs.declared.query.Query.{Query}
-use Rattle.sql_ast.specs.Marks.{Tokens, Is, Says, sign as sign_test, sign_lexeme, start_of}
+use Rattle.sql_ast.specs.Marks.{Tokens, Is, sign as sign_test, sign_lexeme, start_of}
 use Rattle.sql_ast.specs.Trees.{alone, cube_lexeme}
 use Rattle.sql_ast.specs.Grammar.{ExprOf, QueryOf, ListOf, GroupByOf, group_none, group_is, GroupsOf, groups_keys, groups_empty, groups_sets, groups_cube, GroupSetOf, set_item, set_cube, GroupSetsOf, sets_none, sets_more, CubeOf, cube_is, GroupItemsOf, gitems_none, gitems_more, GroupItemOf, gitem_empty, gitem_list, gitem_expr, gitem_longer, gitem_query}
-use Rattle.sql_ast.specs.Pieces.{Piece, word, read_word, sign, bracketed, after_commas, spelled_word}
+use Rattle.sql_ast.specs.Pieces.{Piece, bracketed, after_commas, spelled_word}
 use Rattle.sql_ast.specs.Canon.{canon_pieces, cube_word}
 use Rattle.sql_same.specs.Bare.{as_is, bare_group_item, bare_cube, bare_set, bare_groups, BareExpr, BareQuery}
 use Rattle.sql_print.specs.PartPieces.{listed, group_item_pieces, cube_pieces, set_pieces, groups_pieces}
 use Rattle.sql_print.specs.QueryPieces.{grouping_pieces}
 use Rattle.sql_print.specs.TreePieces.{expr_pieces}
-use Rattle.sql_print.proofs.Carried.{Carries, carries_more, Found, Back, split, one, nothing, is_reserved, is_sign, is_word}
+use Rattle.sql_print.proofs.Carried.{Carries, Found, Back, split, one, nothing, is_reserved, is_sign, is_word}
 use Rattle.sql_print.proofs.BackLevels.{Spelled}
 use Rattle.sql_print.proofs.BackLists.{Inner, enclosed, back_list, alone_same}
 use Rattle.sql_print.proofs.BackExprs.{expr_back}

@@ -1,10 +1,9 @@
 -- The select list is spelled by the tokens of its print, if the expressions in it are.
-use Rattle.std.proofs.Common.{◌≡◌, ℕ, suc, ◌<◌, ◌≤◌, Bool, true, false, List, [], ◌∷◌, ◌++◌, length, map, Option, Some, None, refl, sym, ◌∙◌, ap, subst, arith}
+use Rattle.std.proofs.Common.{ℕ, suc, ◌<◌, List, [], ◌∷◌, ◌++◌, length, map, refl, sym, ap, subst, arith}
 use Rattle.std.proofs.lemmas.List.{length-append, append_assoc}
 use Rattle.sql_names.specs.declared.words.Reserved.TheVariants as r
 use Rattle.sql_ast.specs.declared.words.Sign.TheVariants as s
 use Rattle.sql_ast.specs.declared.words.Word.TheVariants as keyword
-use Rattle.sql_ast.specs.declared.token.Token.{Token}
 use Rattle.sql_ast.specs.declared.clauses.Edit.{Edit}
 use Rattle.sql_ast.specs.declared.clauses.Item.{Item}
 use Rattle.sql_ast.specs.declared.clauses.Item.TheVariants as item
@@ -13,15 +12,15 @@ use Rattle.sql_ast.specs.declared.clauses.Replacement.{Replacement}
 use Rattle.sql_ast.specs.declared.expr.Expr.{Expr}
 use Rattle.sql_ast.specs.Marks.{Tokens, start_of}
 use Rattle.sql_ast.specs.Trees.{name_at}
-use Rattle.sql_ast.specs.Grammar.{PostfixOf, ItemOf, item_star, item_qualified, item_expr, ItemsOf, items_none, items_comma, items_more, EditOf, edit_is, ExceptOf, except_none, except_is, ReplaceOf, replace_none, replace_is, ReplacementOf, replacement_is, ReplacementsOf, replacements_none, replacements_more}
-use Rattle.sql_ast.specs.Pieces.{Piece, read_word, sign, bracketed, after_commas, word_if_plain, spelled_word}
+use Rattle.sql_ast.specs.Grammar.{ItemOf, item_star, item_qualified, item_expr, ItemsOf, items_none, items_comma, items_more, EditOf, edit_is, ExceptOf, except_none, except_is, ReplaceOf, replace_none, replace_is, ReplacementOf, replacement_is, ReplacementsOf, replacements_none, replacements_more}
+use Rattle.sql_ast.specs.Pieces.{after_commas, word_if_plain, spelled_word}
 use Rattle.sql_ast.specs.Canon.{except_pieces}
-use Rattle.sql_same.specs.Bare.{as_is, bare_name, bare_names, bare_alias, bare_replacement, bare_edit, bare_item, BareExpr}
-use Rattle.sql_print.specs.PartPieces.{listed, operand, replacement_pieces, replace_pieces, edit_pieces, item_pieces}
+use Rattle.sql_same.specs.Bare.{as_is, bare_names, bare_replacement, bare_edit, bare_item, BareExpr}
+use Rattle.sql_print.specs.PartPieces.{replacement_pieces, replace_pieces, edit_pieces, item_pieces}
 use Rattle.sql_print.specs.TreePieces.{expr_level, expr_pieces}
-use Rattle.sql_print.proofs.Carried.{Carries, Found, Back, split, one, nothing, is_reserved, is_sign, is_word, is_named}
+use Rattle.sql_print.proofs.Carried.{Found, Back, split, one, nothing, is_reserved, is_sign, is_word, is_named}
 use Rattle.sql_print.proofs.BackNames.{name_same, back_alias, back_names}
-use Rattle.sql_print.proofs.BackLevels.{Level, Spelled}
+use Rattle.sql_print.proofs.BackLevels.{Level}
 use Rattle.sql_print.proofs.BackLists.{Inner}
 use Rattle.sql_print.proofs.BackExprs.{postfix_back, expr_back}
 

@@ -1,15 +1,14 @@
 -- Joins are spelled by the tokens of their prints, if the expressions and queries in them are.
-use Rattle.std.proofs.Common.{◌≡◌, ℕ, suc, ◌<◌, ◌≤◌, Bool, true, false, List, [], ◌∷◌, ◌++◌, length, map, Option, Some, None, option_map, refl, sym, ◌∙◌, ap, subst, arith}
-use Rattle.std.proofs.lemmas.List.{length-append, append_assoc, append-nil}
+use Rattle.std.proofs.Common.{◌≡◌, ℕ, suc, ◌<◌, Bool, true, false, List, [], ◌∷◌, ◌++◌, length, map, Option, Some, None, option_map, refl, sym, ◌∙◌, ap, subst, arith}
+use Rattle.std.proofs.lemmas.List.{length-append, append-nil}
 use Rattle.sql_names.specs.declared.words.Reserved.TheVariants as r
 use Rattle.sql_ast.specs.declared.words.Sign.TheVariants as s
-use Rattle.sql_ast.specs.declared.token.Token.{Token}
 use Rattle.sql_ast.specs.declared.clauses.On.{On}
 use Rattle.sql_ast.specs.declared.expr.Expr.{Expr}
 use Rattle.sql_ast.specs.declared.expr.Expr.TheOpen.{Primary-F, Joined-F, FromItem-F}
 use Rattle.sql_ast.specs.declared.expr.Expr.TheOpen as ast
-use Rattle.sql_ast.specs.declared.query.FromItem.{FromItem, roll-FromItem, out-FromItem, out-roll-FromItem}
-use Rattle.sql_ast.specs.declared.query.Joined.{Joined, roll-Joined, out-Joined, out-roll-Joined}
+use Rattle.sql_ast.specs.declared.query.FromItem.{FromItem, roll-FromItem, out-roll-FromItem}
+use Rattle.sql_ast.specs.declared.query.Joined.{Joined, roll-Joined, out-roll-Joined}
 use Rattle.sql_ast.specs.declared.query.JoinWord.{JoinWord}
 use Rattle.sql_ast.specs.declared.query.JoinWord.TheVariants as join
 use Rattle.sql_ast.specs.declared.query.Primary.{Primary, out-Primary}
@@ -20,14 +19,15 @@ use Rattle.sql_ast.specs.Marks.{Tokens, start_of}
 use Rattle.sql_ast.specs.Trees.{joins_freely}
 use Rattle.sql_ast.specs.Parts.{optional_none}
 use Rattle.sql_ast.specs.Grammar.{PrimaryOf, OnOf, OnPartOf, on_is, on_missing, JoinOf, join_cross, join_inner, join_plain, join_left, join_right, join_full, JoinsOf, joins_none, joins_comma, joins_join, FromOf, from_are}
-use Rattle.sql_ast.specs.Pieces.{Piece, if_there}
+use Rattle.sql_ast.specs.Pieces.{if_there}
 use Rattle.sql_ast.specs.Canon.{join_pieces}
 use Rattle.sql_same.specs.Bare.{as_is, bare_on, BareExpr, BarePrimary, BareJoined, BareFrom}
 use Rattle.sql_same.proofs.BareLaws.{primary_at as bare_at, bare_primary}
 use Rattle.sql_same.proofs.BareSame.{same_joined, same_from}
 use Rattle.sql_print.specs.PartPieces.{run, on_pieces}
 use Rattle.sql_print.specs.TreePieces.{expr_pieces, primary_pieces, joined_pieces, from_pieces}
-use Rattle.sql_print.proofs.CanonLaws.{joined_at, print_joined, from_at, print_from}
+use Rattle.sql_print.proofs.CanonFroms.{joined_at, from_at}
+use Rattle.sql_print.proofs.CanonLaws.{print_joined, print_from}
 use Rattle.sql_print.proofs.Carried.{Carries, Found, Back, split, one, nothing, carry, in_three, is_reserved, is_sign}
 use Rattle.sql_print.proofs.BackLists.{Inner}
 use Rattle.sql_print.proofs.BackFroms.{back_on, back_primary}

@@ -1,10 +1,9 @@
 -- An expression whose print is spelled at its own level is spelled at each place: where its level is high enough as it is,
 -- and else in brackets.
-use Rattle.std.proofs.Common.{◌≡◌, ℕ, zero, suc, ◌+◌, ◌-◌, ◌<◌, ◌≤◌, nat_lt, Bool, true, false, if◌then◌else◌, List, [], ◌∷◌, ◌++◌, length, map, refl, sym, ◌∙◌, ap, subst, arith}
+use Rattle.std.proofs.Common.{◌≡◌, ℕ, zero, suc, ◌+◌, ◌-◌, ◌<◌, ◌≤◌, nat_lt, Bool, true, false, if◌then◌else◌, List, [], ◌∷◌, ◌++◌, refl, sym, ◌∙◌, ap, subst, arith}
 use Rattle.std.proofs.lemmas.List.{append-nil}
 use Rattle.std.proofs.lemmas.Bool.Decides.{nat_tests}
 use Rattle.sql_ast.specs.declared.words.Sign.TheVariants as s
-use Rattle.sql_ast.specs.declared.token.Token.{Token}
 use Rattle.sql_ast.specs.declared.expr.Expr.{Expr, out-Expr}
 use Rattle.sql_ast.specs.declared.expr.Expr.TheOpen.{Expr-F}
 use Rattle.sql_ast.specs.declared.expr.Expr.TheOpen as ast
@@ -18,13 +17,13 @@ use Rattle.sql_ast.specs.Marks.{Tokens}
 use Rattle.sql_ast.specs.Trees.{chain, nots, prefixes, path, is_subquery, subquery_layer}
 use Rattle.sql_ast.specs.Parts.{nots_none, prefixes_none}
 use Rattle.sql_ast.specs.Grammar.{ExprOf, expr_is, ors_none, ConjOf, conj_is, ands_none, NegOf, neg_is, CompOf, comp_bor, BorOf, bor_is, bors_none, BxorOf, bxor_is, bxors_none, BandOf, band_is, bands_none, ShiftOf, shift_is, shifts_none, SumOf, sum_is, sums_none, ProdOf, prod_is, prods_none, UnaryOf, unary_is, PostfixOf, postfix_is, parts_none, BasicOf, basic_group}
-use Rattle.sql_ast.specs.Pieces.{Piece, sign, bracketed}
+use Rattle.sql_ast.specs.Pieces.{Piece, bracketed}
 use Rattle.sql_same.specs.Bare.{as_is, BareExpr}
 use Rattle.sql_same.proofs.BareLaws.{bare_expr, expr_at as bare_at}
 use Rattle.sql_print.specs.PartPieces.{operand}
 use Rattle.sql_print.specs.TreePieces.{expr_level, expr_pieces}
 use Rattle.sql_print.proofs.CanonLaws.{level_at, pieces_at, level_expr, pieces_expr}
-use Rattle.sql_print.proofs.Carried.{Carries, Found, Back, split, one, nothing, is_sign}
+use Rattle.sql_print.proofs.Carried.{Found, Back, split, one, nothing, is_sign}
 
 -- what is spelled at each level, from the loosest to the tightest
 unfoldable pub Level : ℕ → Expr → Tokens → Type 0

@@ -1,5 +1,5 @@
 -- Brackets and lists of expressions are spelled by the tokens of their prints, if the expressions are.
-use Rattle.std.proofs.Common.{◌≡◌, ℕ, suc, ◌<◌, ◌≤◌, Bool, true, false, List, [], ◌∷◌, ◌++◌, length, map, Option, Some, None, refl, sym, ◌∙◌, ap, subst, arith}
+use Rattle.std.proofs.Common.{◌≡◌, ℕ, ◌<◌, Bool, true, false, List, [], ◌∷◌, ◌++◌, length, map, refl, ◌∙◌, ap, arith}
 use Rattle.std.proofs.lemmas.List.{length-append}
 use Rattle.sql_names.specs.declared.words.Reserved.{Reserved}
 use Rattle.sql_names.specs.declared.words.Reserved.TheVariants as r
@@ -13,11 +13,11 @@ use Rattle.sql_ast.specs.declared.query.FromItem.{FromItem}
 use Rattle.sql_ast.specs.declared.query.Joined.{Joined}
 use Rattle.sql_ast.specs.declared.query.Query.{Query}
 use Rattle.sql_ast.specs.declared.query.Select.{Select}
-use Rattle.sql_ast.specs.Marks.{Tokens, Is, reserved, sign as sign_test}
+use Rattle.sql_ast.specs.Marks.{Tokens, Is, sign as sign_test}
 use Rattle.sql_ast.specs.Trees.{is_subquery, subquery_layer, alone}
 use Rattle.sql_ast.specs.Parts.{NegatableOf, not_negated, is_negated, IsNotOf, is_plain, is_not}
 use Rattle.sql_ast.specs.Grammar.{ExprOf, QueryOf, ListOf, list_is, CommasOf, commas_none, commas_more}
-use Rattle.sql_ast.specs.Pieces.{Piece, word, sign, bracketed, after_commas}
+use Rattle.sql_ast.specs.Pieces.{Piece, word, bracketed, after_commas}
 use Rattle.sql_ast.specs.Canon.{not_if, canon_pieces}
 use Rattle.sql_same.specs.Bare.{as_is, BareExpr, BareQuery}
 use Rattle.sql_same.proofs.BareLaws.{expr_at as bare_at}

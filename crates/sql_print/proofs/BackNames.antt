@@ -1,6 +1,5 @@
 -- Names and the words of clauses are spelled by the tokens of their prints.
-use Rattle.std.proofs.Common.{◌≡◌, ℕ, Bool, true, false, List, [], ◌∷◌, ◌++◌, map, Option, Some, None, option_map, refl, sym, ◌∙◌, ap}
-use Rattle.sql_names.specs.declared.words.Reserved.{Reserved}
+use Rattle.std.proofs.Common.{◌≡◌, ℕ, Bool, true, false, List, [], ◌∷◌, ◌++◌, map, Option, Some, None, option_map, refl, ap}
 use Rattle.sql_names.specs.declared.words.Reserved.TheVariants as r
 use Rattle.sql_ast.specs.declared.words.Sign.TheVariants as s
 use Rattle.sql_ast.specs.declared.words.Word.{Word}
@@ -14,11 +13,11 @@ use Rattle.sql_ast.specs.declared.clauses.NullsPlace.{NullsPlace}
 use Rattle.sql_ast.specs.declared.clauses.NullsPlace.TheVariants as nulls_place
 use Rattle.sql_ast.specs.declared.clauses.UnpivotColumn.{UnpivotColumn}
 use Rattle.sql_ast.specs.declared.clauses.WithOffset.{WithOffset}
-use Rattle.sql_ast.specs.Marks.{Tokens, Is, spelled_lexeme, text, text_lexeme, integer, integer_lexeme, number_lexeme, content, content_lexeme}
+use Rattle.sql_ast.specs.Marks.{Tokens, spelled_lexeme, text_lexeme, integer_lexeme, number_lexeme, content_lexeme}
 use Rattle.sql_ast.specs.Trees.{name_at}
 use Rattle.sql_ast.specs.Parts.{AliasOf, alias_none, alias_as, FromAliasOf, from_alias_none, from_alias_as, NamesOf, names_are, NameCommasOf, name_commas_none, name_commas_more, NameDotsOf, name_dots_none, name_dots_more, PlaceOf, place_none, place_is, UnpivotColumnOf, column_plain, column_as, UnpivotCommasOf, unpivot_none, unpivot_more, IncludeOf, include_none, include_nulls, DistinctOf, distinct_none, distinct_is, SelectDistinctOf, select_none, select_distinct, AsStructOf, as_struct_none, as_struct_is, DirectionOf, direction_none, direction_desc, NullsPlaceOf, nulls_none, nulls_first, nulls_last, NullsPartOf, nulls_part_none, nulls_ignore, nulls_respect, CallLimitOf, call_limit_none, call_limit_is}
-use Rattle.sql_ast.specs.Pieces.{Piece, word, name, read_word, spaced, sign, with_commas, after_commas, bracketed, if_there, if_so, word_if_plain, spelled_word}
-use Rattle.sql_ast.specs.Canon.{name_pieces, names_list, alias_pieces, dots, path_pieces, offset_pieces, unpivot_column_pieces, nulls_place_pieces, nulls_part_pieces, call_limit}
+use Rattle.sql_ast.specs.Pieces.{word, name, read_word, spaced, sign, after_commas, bracketed, if_there, if_so, word_if_plain, spelled_word}
+use Rattle.sql_ast.specs.Canon.{name_pieces, names_list, alias_pieces, dots, offset_pieces, unpivot_column_pieces, nulls_place_pieces, nulls_part_pieces, call_limit}
 use Rattle.sql_same.specs.Bare.{as_is, bare_name, bare_names, bare_alias, bare_offset, bare_column}
 use Rattle.sql_print.proofs.Carried.{Carries, carries_none, carries_more, Found, Back, split, one, nothing, is_reserved, is_sign, is_word, is_named}
 

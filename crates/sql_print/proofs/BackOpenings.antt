@@ -1,14 +1,12 @@
 -- What the print of an expression begins with: brackets, of which it is known what they hold, or another token.
-use Rattle.std.proofs.Common.{◌≡◌, ℕ, suc, ◌+◌, ◌<◌, ◌≤◌, nat_lt, Bool, true, false, if◌then◌else◌, List, [], ◌∷◌, ◌++◌, length, map, refl, sym, ◌∙◌, ap, subst, arith}
+use Rattle.std.proofs.Common.{◌≡◌, ℕ, ◌<◌, ◌≤◌, nat_lt, Bool, true, false, if◌then◌else◌, List, [], ◌∷◌, ◌++◌, length, map, refl, sym, ◌∙◌, ap, subst, arith}
 use Rattle.std.proofs.lemmas.List.{append_assoc, append-nil, length-append}
 use Rattle.std.proofs.lemmas.Bool.Decides.{nat_tests}
 use Rattle.sql_ast.specs.declared.words.Sign.TheVariants as s
 use Rattle.sql_ast.specs.declared.token.Lexeme.TheVariants as l
-use Rattle.sql_ast.specs.declared.token.Token.{Token}
 use Rattle.sql_ast.specs.declared.clauses.Function.{Function}
 use Rattle.sql_ast.specs.declared.clauses.Function.TheVariants as function
 use Rattle.sql_ast.specs.declared.expr.Expr.{Expr, out-Expr}
-use Rattle.sql_ast.specs.declared.expr.Expr.TheVariants as e
 use Rattle.sql_ast.specs.declared.expr.Expr.TheOpen.{Expr-F}
 use Rattle.sql_ast.specs.declared.expr.Expr.TheOpen as ast
 use Rattle.sql_ast.specs.declared.expr.Link.{Link}
@@ -24,7 +22,7 @@ use Rattle.sql_ast.specs.declared.query.FromItem.{FromItem}
 use Rattle.sql_ast.specs.declared.query.Joined.{Joined}
 use Rattle.sql_ast.specs.declared.query.Query.{Query}
 use Rattle.sql_ast.specs.declared.query.Select.{Select}
-use Rattle.sql_ast.specs.Marks.{Tokens, sign_lexeme, same_sign}
+use Rattle.sql_ast.specs.Marks.{sign_lexeme, same_sign}
 use Rattle.sql_ast.specs.Trees.{is_subquery, subquery_layer, alone}
 use Rattle.sql_ast.specs.Grammar.{ExprOf, QueryOf, ListOf, list_is, commas_none}
 use Rattle.sql_ast.specs.Pieces.{Piece, bracketed}

@@ -1,25 +1,22 @@
 -- The parts of basic expressions are spelled by the tokens of their prints, if the expressions in them are.
-use Rattle.std.proofs.Common.{◌≡◌, ℕ, suc, ◌<◌, ◌≤◌, Bool, true, false, List, [], ◌∷◌, ◌++◌, length, map, Option, Some, None, option_map, refl, sym, ◌∙◌, ap, subst, arith}
-use Rattle.std.proofs.lemmas.List.{length-append, append_assoc, append-nil}
+use Rattle.std.proofs.Common.{ℕ, suc, ◌<◌, List, [], ◌∷◌, ◌++◌, length, map, Option, Some, None, option_map, refl, sym, ap, subst, arith}
+use Rattle.std.proofs.lemmas.List.{length-append, append-nil}
 use Rattle.sql_names.specs.declared.words.Reserved.TheVariants as r
 use Rattle.sql_ast.specs.declared.words.Sign.TheVariants as s
 use Rattle.sql_ast.specs.declared.token.Token.{Token}
-use Rattle.sql_ast.specs.declared.token.Lexeme.TheVariants as l
 use Rattle.sql_ast.specs.declared.clauses.Aliased.{Aliased}
 use Rattle.sql_ast.specs.declared.clauses.Binding.{Binding}
-use Rattle.sql_ast.specs.declared.clauses.Name.{Name}
 use Rattle.sql_ast.specs.declared.clauses.When.{When}
 use Rattle.sql_ast.specs.declared.expr.Expr.{Expr}
-use Rattle.sql_ast.specs.Marks.{Tokens, Is, sign as sign_test}
+use Rattle.sql_ast.specs.Marks.{Tokens}
 use Rattle.sql_ast.specs.Trees.{name_at}
-use Rattle.sql_ast.specs.Grammar.{ExprOf, ListOf, ArrayItemsOf, array_empty, array_items, SubjectOf, subject_none, subject_is, WhenOf, when_is, WhensOf, whens_none, whens_more, ElseOf, else_none, else_is, MemberOf, member_plain, member_as, MembersOf, members_none, members_more, BindingOf, binding_is, BindingsOf, bindings_none, bindings_more}
-use Rattle.sql_ast.specs.Pieces.{Piece, word, name, sign, bracketed, after_commas, if_there, word_if_plain}
-use Rattle.sql_ast.specs.Canon.{alias_pieces}
-use Rattle.sql_same.specs.Bare.{as_is, bare_name, bare_alias, bare_when, bare_aliased, bare_binding, BareExpr}
+use Rattle.sql_ast.specs.Grammar.{ArrayItemsOf, array_empty, array_items, SubjectOf, subject_none, subject_is, WhenOf, when_is, WhensOf, whens_none, whens_more, ElseOf, else_none, else_is, MemberOf, member_plain, member_as, MembersOf, members_none, members_more, BindingOf, binding_is, BindingsOf, bindings_none, bindings_more}
+use Rattle.sql_ast.specs.Pieces.{sign, after_commas, if_there, word_if_plain}
+use Rattle.sql_same.specs.Bare.{as_is, bare_when, bare_aliased, bare_binding, BareExpr}
 use Rattle.sql_print.specs.PartPieces.{run, listed, when_pieces, aliased_pieces, binding_pieces}
 use Rattle.sql_print.specs.ExprPieces.{else_pieces}
 use Rattle.sql_print.specs.TreePieces.{expr_pieces}
-use Rattle.sql_print.proofs.Carried.{Carries, carries_none, carries_more, Found, Back, split, one, nothing, is_reserved, is_sign, is_named}
+use Rattle.sql_print.proofs.Carried.{Carries, Found, Back, split, one, nothing, is_reserved, is_sign, is_named}
 use Rattle.sql_print.proofs.BackNames.{name_same}
 use Rattle.sql_print.proofs.BackLists.{Inner, back_list}
 

@@ -1,11 +1,8 @@
 -- Prefixes, fields and subscripts, and shifts are spelled by the tokens of their prints, if their operands are.
-use Rattle.std.proofs.Common.{◌≡◌, ℕ, suc, ◌<◌, ◌≤◌, ◌==◌, Bool, true, false, ◌&&◌, List, [], ◌∷◌, ◌++◌, length, map, Option, Some, None, refl, sym, ◌∙◌, ap, subst, arith}
+use Rattle.std.proofs.Common.{◌≡◌, ℕ, suc, ◌<◌, List, [], ◌∷◌, ◌++◌, length, map, Some, refl, sym, ◌∙◌, ap, subst, arith}
 use Rattle.std.proofs.lemmas.List.{length-append, append_assoc}
 use Rattle.sql_ast.specs.declared.words.Sign.TheVariants as s
-use Rattle.sql_ast.specs.declared.words.Word.TheVariants as w
-use Rattle.sql_ast.specs.declared.token.Token.{Token}
-use Rattle.sql_ast.specs.declared.token.Lexeme.TheVariants as l
-use Rattle.sql_ast.specs.declared.expr.Expr.{Expr, out-Expr}
+use Rattle.sql_ast.specs.declared.expr.Expr.{Expr}
 use Rattle.sql_ast.specs.declared.expr.Expr.TheVariants as e
 use Rattle.sql_ast.specs.declared.expr.Expr.TheOpen as ast
 use Rattle.sql_ast.specs.declared.expr.IndexForm.{IndexForm}
@@ -15,13 +12,13 @@ use Rattle.sql_ast.specs.declared.expr.Part.TheVariants as part
 use Rattle.sql_ast.specs.declared.expr.Prefix.{Prefix}
 use Rattle.sql_ast.specs.declared.expr.Signed.{Signed}
 use Rattle.sql_ast.specs.declared.expr.Signed.TheVariants as signed
-use Rattle.sql_ast.specs.Marks.{Tokens, Is, Says, named, sign as sign_test, start_of}
+use Rattle.sql_ast.specs.Marks.{Tokens, start_of}
 use Rattle.sql_ast.specs.Trees.{name_at, prefix_lexeme, form_lexeme, prefixes, path}
 use Rattle.sql_ast.specs.Parts.{PrefixesOf, prefixes_none, prefixes_more}
 use Rattle.sql_ast.specs.Grammar.{ExprOf, UnaryOf, unary_is, PostfixOf, postfix_is, PartsOf, parts_none, parts_more, PartOf, part_field, part_index, BasicOf}
-use Rattle.sql_ast.specs.Pieces.{Piece, word, name, sign, bracketed, word_if_plain}
+use Rattle.sql_ast.specs.Pieces.{Piece, word_if_plain}
 use Rattle.sql_ast.specs.Canon.{prefix_piece, form_piece}
-use Rattle.sql_same.specs.Bare.{as_is, bare_name, bare_prefix, bare_part, BareExpr}
+use Rattle.sql_same.specs.Bare.{as_is, bare_prefix, bare_part, BareExpr}
 use Rattle.sql_print.specs.PartPieces.{run, operand, part_pieces}
 use Rattle.sql_print.specs.TreePieces.{expr_level, expr_pieces}
 use Rattle.sql_print.proofs.Carried.{Carries, Found, Back, split, one, nothing, is_sign, is_named}

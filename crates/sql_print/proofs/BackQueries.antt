@@ -1,44 +1,30 @@
 -- Queries are spelled by the tokens of their prints, if what follows GROUP BY is; so all that brackets hold is, whatever its length.
-use Rattle.std.proofs.Common.{◌≡◌, ℕ, zero, suc, ◌<◌, ◌≤◌, Bool, true, false, List, [], ◌∷◌, ◌++◌, length, map, Option, Some, None, option_map, refl, sym, ◌∙◌, ap, subst, arith}
+use Rattle.std.proofs.Common.{◌≡◌, ℕ, suc, ◌<◌, List, [], ◌∷◌, ◌++◌, length, map, Option, Some, None, option_map, refl, ◌∙◌, ap, arith}
 use Rattle.std.proofs.lemmas.List.{length-append, append_assoc}
-use Rattle.sql_types.specs.declared.kinds.SetKind.{SetKind}
 use Rattle.sql_names.specs.declared.words.Reserved.TheVariants as r
-use Rattle.sql_ast.specs.declared.words.Sign.TheVariants as s
-use Rattle.sql_ast.specs.declared.words.Word.TheVariants as keyword
-use Rattle.sql_ast.specs.declared.token.Token.{Token}
-use Rattle.sql_ast.specs.declared.token.Lexeme.{Lexeme}
-use Rattle.sql_ast.specs.declared.token.Lexeme.TheVariants as l
 use Rattle.sql_ast.specs.declared.clauses.FilterPart.{FilterPart}
-use Rattle.sql_ast.specs.declared.clauses.Item.{Item}
-use Rattle.sql_ast.specs.declared.clauses.LimitPart.{LimitPart}
-use Rattle.sql_ast.specs.declared.clauses.Sort.{Sort}
 use Rattle.sql_ast.specs.declared.expr.Expr.{Expr}
-use Rattle.sql_ast.specs.declared.expr.Expr.TheOpen.{Term-F, Select-F, Query-F}
+use Rattle.sql_ast.specs.declared.expr.Expr.TheOpen.{Term-F, Select-F}
 use Rattle.sql_ast.specs.declared.grouping.Groups.{Groups}
-use Rattle.sql_ast.specs.declared.query.Body.{Body}
-use Rattle.sql_ast.specs.declared.query.Cte.{Cte}
 use Rattle.sql_ast.specs.declared.query.FromItem.{FromItem}
 use Rattle.sql_ast.specs.declared.query.Joined.{Joined}
 use Rattle.sql_ast.specs.declared.query.Primary.{Primary}
-use Rattle.sql_ast.specs.declared.query.Query.{Query, roll-Query, out-Query, out-roll-Query}
-use Rattle.sql_ast.specs.declared.query.Select.{Select, roll-Select, out-Select, out-roll-Select}
-use Rattle.sql_ast.specs.declared.query.SetTerm.{SetTerm}
-use Rattle.sql_ast.specs.declared.query.Term.{Term, out-Term}
+use Rattle.sql_ast.specs.declared.query.Query.{Query}
+use Rattle.sql_ast.specs.declared.query.Select.{Select, roll-Select, out-roll-Select}
+use Rattle.sql_ast.specs.declared.query.Term.{Term}
 use Rattle.sql_ast.specs.declared.query.Term.TheVariants as term
-use Rattle.sql_ast.specs.Marks.{Tokens, start_of}
-use Rattle.sql_ast.specs.Trees.{name_at, set_word, set_quantifier}
-use Rattle.sql_ast.specs.Grammar.{ExprOf, QueryOf, query_is, CtesOf, ctes_none, ctes_are, CteCommasOf, cte_commas_none, cte_commas_more, CteOf, cte_is, BodyOf, body_is, SetTermsOf, set_terms_none, set_terms_more, TermOf, term_select, term_query, SelectOf, select_is, FromPartOf, from_none, from_is, WhereOf, where_none, where_is, HavingOf, having_none, having_is, GroupByOf}
-use Rattle.sql_ast.specs.Pieces.{Piece, word, sign, bracketed, after_commas, if_there, if_so, word_if_plain}
+use Rattle.sql_ast.specs.Marks.{Tokens}
+use Rattle.sql_ast.specs.Grammar.{QueryOf, TermOf, term_select, term_query, SelectOf, select_is, FromPartOf, from_none, from_is, WhereOf, where_none, where_is, HavingOf, having_none, having_is, GroupByOf}
+use Rattle.sql_ast.specs.Pieces.{Piece, word, after_commas, if_there, if_so}
 use Rattle.sql_ast.specs.Canon.{canon_pieces}
-use Rattle.sql_same.specs.Bare.{as_is, bare_name, bare_having, bare_groups, bare_cte, bare_set_term, BareExpr, BareQuery, BareTerm, BareSelect, BareFrom}
+use Rattle.sql_same.specs.Bare.{as_is, bare_having, bare_groups, BareExpr, BareQuery, BareTerm, BareSelect, BareFrom}
 use Rattle.sql_same.proofs.BareSame.{same_term, same_select}
-use Rattle.sql_print.specs.PartPieces.{run, listed, item_pieces, having_pieces, cte_pieces, ctes_pieces, set_term_pieces}
+use Rattle.sql_print.specs.PartPieces.{item_pieces, having_pieces}
 use Rattle.sql_print.specs.QueryPieces.{clause_pieces, grouping_pieces}
 use Rattle.sql_print.specs.TreePieces.{expr_level, expr_pieces, from_pieces, select_pieces, term_pieces}
 use Rattle.sql_print.proofs.CanonLaws.{select_at, print_select, term_at, print_term}
-use Rattle.sql_print.proofs.Carried.{Carries, Found, Back, split, one, nothing, carry, in_five, is_reserved, is_sign, is_named}
-use Rattle.sql_print.proofs.BackNames.{name_same, back_select_distinct, back_as_struct}
-use Rattle.sql_print.proofs.BackLevels.{Spelled}
+use Rattle.sql_print.proofs.Carried.{Found, Back, split, one, nothing, carry, is_reserved}
+use Rattle.sql_print.proofs.BackNames.{back_select_distinct, back_as_struct}
 use Rattle.sql_print.proofs.BackLists.{Inner, enclosed}
 use Rattle.sql_print.proofs.BackExprs.{expr_back}
 use Rattle.sql_print.proofs.BackItems.{back_item, back_items}

@@ -1,13 +1,12 @@
 -- A list of grouping that is no list but an expression isn't a tuple: what its first brackets hold is told from the tokens.
-use Rattle.std.proofs.Common.{◌≡◌, ℕ, suc, ◌<◌, Bool, true, false, List, [], ◌∷◌, ◌++◌, length, refl, sym, ◌∙◌, ap, subst, arith}
-use Rattle.std.proofs.lemmas.List.{append_assoc, append-nil, length-append}
-use Rattle.fronts.specs.Readers.{Outcome, taken}
+use Rattle.std.proofs.Common.{◌≡◌, ℕ, suc, Bool, true, false, List, [], ◌∷◌, ◌++◌, length, refl, sym, ◌∙◌, ap, subst, arith}
+use Rattle.std.proofs.lemmas.List.{append_assoc, append-nil}
+use Rattle.fronts.specs.Readers.{taken}
 use Rattle.sql_ast.specs.declared.words.Sign.TheVariants as s
 use Rattle.sql_ast.specs.declared.token.Token.{Token}
 use Rattle.sql_ast.specs.declared.expr.Expr.{Expr, out-Expr}
 use Rattle.sql_ast.specs.declared.expr.Expr.TheVariants as e
 use Rattle.sql_ast.specs.declared.expr.Expr.TheOpen.{Expr-F}
-use Rattle.sql_ast.specs.declared.expr.Expr.TheOpen as ast
 use Rattle.sql_ast.specs.declared.grouping.GroupItem.TheVariants as group_item
 use Rattle.sql_ast.specs.declared.query.Primary.{Primary}
 use Rattle.sql_ast.specs.declared.query.Term.{Term}
@@ -16,7 +15,7 @@ use Rattle.sql_ast.specs.declared.query.Joined.{Joined}
 use Rattle.sql_ast.specs.declared.query.Query.{Query}
 use Rattle.sql_ast.specs.declared.query.Select.{Select}
 use Rattle.sql_ast.specs.Marks.{Tokens, Is, sign as sign_test}
-use Rattle.sql_ast.specs.Trees.{chain, nots, prefixes, path, alone, is_subquery}
+use Rattle.sql_ast.specs.Trees.{chain, nots, prefixes, path, alone}
 use Rattle.sql_ast.specs.Parts.{nots_none, nots_more, prefixes_none, prefixes_more}
 use Rattle.sql_ast.specs.Grammar.{ExprOf, expr_is, ors_none, ors_more, ConjOf, conj_is, ands_none, ands_more, NegOf, neg_is, CompOf, comp_bor, comp_compare, comp_like, comp_like_list, comp_like_unnest, comp_between, comp_in_list, comp_in_query, comp_in_unnest, comp_is, comp_distinct, BorOf, bor_is, bors_none, bors_more, BxorOf, bxor_is, bxors_none, bxors_more, BandOf, band_is, bands_none, bands_more, ShiftOf, shift_is, shifts_none, shifts_left, shifts_right, SumOf, sum_is, sums_none, sums_more, ProdOf, prod_is, prods_none, prods_more, UnaryOf, unary_is, PostfixOf, postfix_is, parts_none, parts_more, BasicOf, basic_group, basic_tuple, list_is, commas_none, basic_integer, basic_string, basic_bytes, basic_true, basic_false, basic_null, basic_date, basic_parameter, basic_name, basic_call, basic_safe_call, basic_query, basic_case, basic_cast, basic_safe_cast, basic_extract, basic_grouping, basic_exists, basic_array_query, basic_array, basic_array_word, basic_array_typed, basic_struct, basic_typed_struct, basic_with, GroupItemOf, gitem_expr, gitem_longer, gitem_query}
 use Rattle.sql_grammar.specs.Knot.{below}

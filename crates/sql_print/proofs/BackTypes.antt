@@ -1,9 +1,8 @@
 -- Written types are spelled by the tokens of their prints.
-use Rattle.std.proofs.Common.{◌≡◌, ℕ, suc, List, [], ◌∷◌, ◌++◌, map, Option, Some, None, refl, sym, ◌∙◌, ap, subst}
+use Rattle.std.proofs.Common.{◌≡◌, ℕ, suc, List, [], ◌∷◌, ◌++◌, map, Some, None, refl, ◌∙◌, ap, subst}
 use Rattle.sql_names.specs.declared.words.Reserved.TheVariants as r
 use Rattle.sql_ast.specs.declared.words.Sign.TheVariants as s
 use Rattle.sql_ast.specs.declared.token.Token.{Token}
-use Rattle.sql_ast.specs.declared.token.Lexeme.TheVariants as l
 use Rattle.sql_ast.specs.declared.clauses.Name.{Name}
 use Rattle.sql_ast.specs.declared.type_spelling.TypeField.{TypeField}
 use Rattle.sql_ast.specs.declared.type_spelling.TypeSpelling.{TypeSpelling, out-TypeSpelling}
@@ -12,14 +11,13 @@ use Rattle.sql_ast.specs.declared.type_spelling.TypeSpelling.TheOpen as type
 use Rattle.sql_ast.specs.Marks.{Tokens, Is}
 use Rattle.sql_ast.specs.Trees.{name_at}
 use Rattle.sql_ast.specs.Parts.{TypeOf, type_name, type_array, type_struct, FieldsOf, fields_are, FieldCommasOf, fields_none, fields_more, FieldOf, field_unnamed, field_named}
-use Rattle.sql_ast.specs.Pieces.{Piece, word, name, sign, close_sign, with_commas, after_commas, if_there, word_if_plain}
-use Rattle.sql_ast.specs.Canon.{type_pieces, name_pieces, angled}
-use Rattle.sql_same.specs.Bare.{as_is, bare_name, bare_alias, bare_field, BareType}
-use Rattle.sql_same.proofs.BareLaws.{type_at as bare_at}
+use Rattle.sql_ast.specs.Pieces.{Piece, after_commas, word_if_plain}
+use Rattle.sql_ast.specs.Canon.{type_pieces, angled}
+use Rattle.sql_same.specs.Bare.{as_is, bare_name, bare_field, BareType}
 use Rattle.sql_same.proofs.BareSame.{same_type}
 use Rattle.sql_print.specs.PartPieces.{listed, field_pieces}
 use Rattle.sql_print.proofs.TypeLaws.{type_at, print_type}
-use Rattle.sql_print.proofs.Carried.{Carries, carries_none, carries_more, Found, Back, split, one, nothing, is_reserved, is_sign, is_named}
+use Rattle.sql_print.proofs.Carried.{Carries, Found, Back, split, one, nothing, is_reserved, is_sign, is_named}
 use Rattle.sql_print.proofs.BackNames.{name_same}
 
 -- a written type of a known construct

@@ -1,5 +1,5 @@
 -- Whole queries are spelled by the tokens of their prints, if what follows GROUP BY is.
-use Rattle.std.proofs.Common.{◌≡◌, ℕ, zero, suc, ◌<◌, ◌≤◌, Bool, true, false, List, [], ◌∷◌, ◌++◌, length, map, Option, Some, None, option_map, refl, sym, ◌∙◌, ap, subst, arith}
+use Rattle.std.proofs.Common.{◌≡◌, ℕ, zero, suc, ◌<◌, true, false, List, [], ◌∷◌, ◌++◌, length, map, Option, Some, None, option_map, refl, sym, ◌∙◌, ap, subst, arith}
 use Rattle.std.proofs.lemmas.List.{length-append, append_assoc, append-nil}
 use Rattle.sql_types.specs.declared.kinds.SetKind.{SetKind}
 use Rattle.sql_names.specs.declared.words.Reserved.TheVariants as r
@@ -9,30 +9,28 @@ use Rattle.sql_ast.specs.declared.token.Token.{Token}
 use Rattle.sql_ast.specs.declared.token.Lexeme.{Lexeme}
 use Rattle.sql_ast.specs.declared.token.Lexeme.TheVariants as l
 use Rattle.sql_ast.specs.declared.clauses.LimitPart.{LimitPart}
-use Rattle.sql_ast.specs.declared.clauses.Sort.{Sort}
-use Rattle.sql_ast.specs.declared.expr.Expr.{Expr, out-Expr}
+use Rattle.sql_ast.specs.declared.expr.Expr.{Expr}
 use Rattle.sql_ast.specs.declared.expr.Expr.TheVariants as e
 use Rattle.sql_ast.specs.declared.expr.Expr.TheOpen.{Query-F}
 use Rattle.sql_ast.specs.declared.expr.Expr.TheOpen as ast
 use Rattle.sql_ast.specs.declared.grouping.Groups.{Groups}
-use Rattle.sql_ast.specs.declared.query.Body.{Body}
 use Rattle.sql_ast.specs.declared.query.Cte.{Cte}
 use Rattle.sql_ast.specs.declared.query.FromItem.{FromItem}
 use Rattle.sql_ast.specs.declared.query.Joined.{Joined}
 use Rattle.sql_ast.specs.declared.query.Primary.{Primary}
-use Rattle.sql_ast.specs.declared.query.Query.{Query, roll-Query, out-Query, out-roll-Query}
+use Rattle.sql_ast.specs.declared.query.Query.{Query, roll-Query, out-roll-Query}
 use Rattle.sql_ast.specs.declared.query.Select.{Select}
 use Rattle.sql_ast.specs.declared.query.SetTerm.{SetTerm}
 use Rattle.sql_ast.specs.declared.query.Term.{Term}
 use Rattle.sql_ast.specs.Marks.{Tokens, Is, start_of}
 use Rattle.sql_ast.specs.Trees.{name_at, set_word, set_quantifier}
 use Rattle.sql_ast.specs.Parts.{counts, count_lexeme, count_by, count_at, OffsetOf, offset_none, offset_is, LimitOf, limit_none, limit_is}
-use Rattle.sql_ast.specs.Grammar.{ExprOf, QueryOf, query_is, CtesOf, ctes_none, ctes_are, CteCommasOf, cte_commas_none, cte_commas_more, CteOf, cte_is, BodyOf, body_is, SetTermsOf, set_terms_none, set_terms_more, TermOf, GroupByOf}
-use Rattle.sql_ast.specs.Pieces.{Piece, word, read_word, spaced, sign, bracketed, after_commas, if_there, word_if_plain, spelled_word}
+use Rattle.sql_ast.specs.Grammar.{QueryOf, query_is, CtesOf, ctes_none, ctes_are, CteCommasOf, cte_commas_none, cte_commas_more, CteOf, cte_is, body_is, SetTermsOf, set_terms_none, set_terms_more, GroupByOf}
+use Rattle.sql_ast.specs.Pieces.{Piece, read_word, spaced, after_commas, if_there, word_if_plain, spelled_word}
 use Rattle.sql_ast.specs.Canon.{canon_pieces}
-use Rattle.sql_same.specs.Bare.{as_is, bare_name, bare_groups, bare_cte, bare_set_term, bare_limit, BareExpr, BareQuery, BareTerm}
+use Rattle.sql_same.specs.Bare.{as_is, bare_groups, bare_cte, bare_set_term, bare_limit, BareExpr, BareQuery, BareTerm}
 use Rattle.sql_same.proofs.BareSame.{same_expr, same_query}
-use Rattle.sql_print.specs.PartPieces.{run, listed, cte_pieces, ctes_pieces, set_term_pieces, order_pieces, limit_pieces}
+use Rattle.sql_print.specs.PartPieces.{run, cte_pieces, ctes_pieces, set_term_pieces, order_pieces, limit_pieces}
 use Rattle.sql_print.specs.QueryPieces.{grouping_pieces}
 use Rattle.sql_print.specs.TreePieces.{expr_pieces, term_pieces}
 use Rattle.sql_print.proofs.CanonLaws.{pieces_at, pieces_expr, query_at, print_query}

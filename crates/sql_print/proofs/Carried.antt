@@ -1,5 +1,5 @@
 -- Tokens that carry the pieces of a print, one token a piece, wherever they stand; and what such tokens spell.
-use Rattle.std.proofs.Common.{◌≡◌, ℕ, Bool, true, false, ◌&&◌, List, [], ◌∷◌, ◌++◌, Option, Some, None, refl, sym, ◌∙◌, ap, subst}
+use Rattle.std.proofs.Common.{◌≡◌, ℕ, false, ◌&&◌, List, [], ◌∷◌, ◌++◌, Option, Some, refl, ◌∙◌, ap, subst}
 use Rattle.std.proofs.lemmas.List.{append_assoc}
 use denote.Enum.Bare.{true_same}
 use Rattle.sql_names.specs.contracts.words.Reserved as reserved_contract
@@ -11,7 +11,7 @@ use Rattle.sql_ast.specs.declared.words.Sign.{Sign}
 use Rattle.sql_ast.specs.declared.token.Token.{Token}
 use Rattle.sql_ast.specs.declared.token.Lexeme.{Lexeme}
 use Rattle.sql_ast.specs.declared.token.Lexeme.TheVariants as l
-use Rattle.sql_ast.specs.Marks.{Tokens, Is, Says, same_reserved, same_word, same_sign, reserved, reserved_lexeme, sign, sign_lexeme, word, word_lexeme, named, name_lexeme, spelled, spelled_lexeme}
+use Rattle.sql_ast.specs.Marks.{Tokens, Is, Says, same_reserved, same_word, same_sign, reserved, reserved_lexeme, sign, sign_lexeme, word, word_lexeme, named, name_lexeme}
 use Rattle.sql_ast.specs.Pieces.{Piece}
 
 -- where no space stands behind a piece, the next token begins where its token ends

@@ -1,5 +1,5 @@
 -- The prints of words, names, types and counts are runs of tokens that are read back, where the tokens of a text spell them.
-use Rattle.std.proofs.Common.{◌≡◌, ℕ, suc, ◌<◌, ◌^◌, nat_lt, Bool, true, false, if◌then◌else◌, List, [], ◌∷◌, ◌++◌, ◌||◌, map, Option, Some, None, refl, sym, ◌∙◌, ap, subst}
+use Rattle.std.proofs.Common.{◌≡◌, ℕ, ◌<◌, ◌^◌, Bool, true, false, List, [], ◌∷◌, ◌++◌, ◌||◌, map, Option, Some, None, refl, sym, ◌∙◌, ap, subst}
 use Rattle.std.proofs.lemmas.List.{append_assoc, append-nil}
 use Rattle.std.specs.Prelude.{IsUtf8}
 use Rattle.std.specs.List.{list_all}
@@ -7,8 +7,6 @@ use Rattle.sql_names.specs.declared.words.Reserved.{Reserved}
 use Rattle.sql_names.specs.declared.words.Reserved.TheVariants as r
 use Rattle.sql_names.specs.Spelling.{is_plain}
 use Rattle.sql_names.specs.Words.{reserved_of}
-use Rattle.sql_types.specs.declared.kinds.SetKind.{SetKind}
-use Rattle.sql_ast.specs.declared.words.Sign.{Sign}
 use Rattle.sql_ast.specs.declared.words.Sign.TheVariants as s
 use Rattle.sql_ast.specs.declared.words.Word.{Word}
 use Rattle.sql_ast.specs.declared.words.Word.TheVariants as w
@@ -28,17 +26,17 @@ use Rattle.sql_ast.specs.declared.type_spelling.TypeField.{TypeField}
 use Rattle.sql_ast.specs.declared.type_spelling.TypeSpelling.{TypeSpelling, out-TypeSpelling}
 use Rattle.sql_ast.specs.declared.type_spelling.TypeSpelling.TheOpen as shapes
 use Rattle.sql_ast.specs.declared.type_spelling.TypeSpelling.TheVariants as spelling
-use Rattle.sql_ast.specs.Marks.{Tokens, Is, Says, named, name_lexeme, spelled_lexeme, text, text_lexeme, bytes, bytes_lexeme, parameter, parameter_lexeme, content, content_lexeme, integer, integer_lexeme, number, number_lexeme, word as word_test, same_word}
+use Rattle.sql_ast.specs.Marks.{Tokens, Is, Says, named, name_lexeme, spelled_lexeme, text, text_lexeme, bytes, bytes_lexeme, parameter, parameter_lexeme, content, content_lexeme, integer, integer_lexeme, number, number_lexeme, same_word}
 use Rattle.sql_ast.specs.Trees.{name_at, function_of, function_lexeme}
 use Rattle.sql_ast.specs.Words.{word_of}
 use Rattle.sql_ast.specs.Values.{is_name}
-use Rattle.sql_ast.specs.Parts.{AliasOf, alias_none, alias_name, alias_as, from_alias, FromAliasOf, from_alias_none, from_alias_name, from_alias_as, NameCommasOf, name_commas_none, name_commas_more, NamesOf, names_are, NameDotsOf, name_dots_none, name_dots_more, PlaceOf, place_none, place_is, UnpivotColumnOf, column_plain, column_as, UnpivotCommasOf, unpivot_none, unpivot_more, TypeOf, type_name, type_array, type_struct, FieldsOf, fields_are, FieldCommasOf, fields_none, fields_more, FieldOf, field_unnamed, field_named, CallLimitOf, call_limit_none, call_limit_is}
+use Rattle.sql_ast.specs.Parts.{AliasOf, alias_none, alias_name, alias_as, FromAliasOf, from_alias_none, from_alias_name, from_alias_as, NameCommasOf, name_commas_none, name_commas_more, NamesOf, names_are, NameDotsOf, name_dots_none, name_dots_more, PlaceOf, place_none, place_is, UnpivotColumnOf, column_plain, column_as, UnpivotCommasOf, unpivot_none, unpivot_more, TypeOf, type_name, type_array, type_struct, FieldsOf, fields_are, FieldCommasOf, fields_none, fields_more, FieldOf, field_unnamed, field_named, CallLimitOf, call_limit_none, call_limit_is}
 use Rattle.sql_ast.specs.Pieces.{Piece, word, name, read_word, spaced, sign, close_sign, bracketed, call_brackets, after_commas, if_there, if_so, word_if_plain, spelled_word}
-use Rattle.sql_ast.specs.Canon.{name_pieces, names_list, alias_pieces, dots, path_pieces, type_pieces, angled, nulls_place_pieces, nulls_part_pieces, function_piece, call_limit, offset_pieces, unpivot_column_pieces}
+use Rattle.sql_ast.specs.Canon.{name_pieces, names_list, alias_pieces, dots, type_pieces, nulls_place_pieces, nulls_part_pieces, function_piece, call_limit, offset_pieces, unpivot_column_pieces}
 use Rattle.sql_print.specs.PartPieces.{listed, field_pieces}
 use Rattle.sql_print.proofs.AsciiTexts.{is_ascii, ascii_text}
 use Rattle.sql_print.proofs.TypeLaws.{type_at, print_type}
-use Rattle.sql_print.proofs.Flows.{Good, Goods, hd, tl, fr, bk, IsName, Fine, Flow, flow_none, flow_some, Runs, runs_last, runs_more, beside, single, is_reserved, meets, quiet, TypeFlow, type_flow, angled_type, type_comma, type_named, type_name as named_type}
+use Rattle.sql_print.proofs.Flows.{Good, Goods, hd, tl, fr, bk, IsName, Flow, flow_none, flow_some, runs_more, beside, single, is_reserved, quiet, TypeFlow, angled_type, type_comma, type_named, type_name as named_type}
 
 never : {A : Type 0} → false ≡ true → A
 never h = absurd (let g : true ≡ false = sym h in cc)
@@ -66,7 +64,7 @@ spelled_back _ = refl
 pub a_read : (x : Word) → Flow (read_word x ∷ [])
 a_read x = single ((short_word x, ascii_text (spelled_word x) (ascii_word x)), spelled_back x) refl refl
 
-pub a_name : (n : List ℕ) → IsName n → Flow (name n ∷ [])
+a_name : (n : List ℕ) → IsName n → Flow (name n ∷ [])
 a_name n g = single (g, refl) refl refl
 
 pub open_round : Flow (sign s.OpenRound ∷ [])
@@ -103,7 +101,7 @@ name_good : (x : Lexeme) → name_lexeme x ≡ true → Good x → IsName (spell
 name_good (l.Name n o) h g = g
 name_good _ h g = never h
 
-pub named_good : (t : Token) → Is named t → Good t.lexeme → IsName (name_at t).text
+named_good : (t : Token) → Is named t → Good t.lexeme → IsName (name_at t).text
 unfolding name_at
 named_good t i g = name_good t.lexeme i.is g
 

@@ -1,8 +1,8 @@
 -- A plain name is read back as itself, also behind `@`.
-use Rattle.std.proofs.Common.{◌≡◌, inl, inr, ℕ, Bool, true, false, cond, ◌==◌, ◌&&◌, ◌||◌, if◌then◌else◌, nat_le, List, [], ◌∷◌, ◌++◌, map, drop, Option, Some, None, refl, sym, ◌∙◌, ap, subst, arith}
+use Rattle.std.proofs.Common.{◌≡◌, inl, inr, ℕ, Bool, true, false, cond, ◌==◌, ◌&&◌, ◌||◌, if◌then◌else◌, nat_le, List, [], ◌∷◌, map, Option, Some, None, refl, sym, ◌∙◌, ap, arith}
 use Rattle.std.proofs.lemmas.Bool.{and_parts, or_cases}
 use Rattle.std.proofs.lemmas.Bool.Decides.{nat_tests}
-use Rattle.std.specs.Prelude.{IsUtf8, is_none, option_map}
+use Rattle.std.specs.Prelude.{is_none, option_map}
 use Rattle.std.specs.List.{list_all}
 use Rattle.sql_names.specs.declared.words.Reserved.{Reserved}
 use Rattle.sql_names.specs.Spelling as spelling
@@ -13,15 +13,14 @@ use Rattle.sql_ast.specs.declared.pieces.Class.{Class}
 use Rattle.sql_ast.specs.declared.pieces.Class.TheVariants as c
 use Rattle.sql_ast.specs.declared.pieces.Shape.TheVariants as s
 use Rattle.sql_ast.specs.declared.pieces.Piece.TheVariants as piece
-use Rattle.sql_ast.specs.declared.token.Lexeme.{Lexeme}
 use Rattle.sql_ast.specs.declared.token.Lexeme.TheVariants as l
 use Rattle.sql_ast.specs.Classes.{class, is_letter, is_inner, is_after_less}
 use Rattle.sql_ast.specs.Pieces.{lexeme_text, word_if_plain}
-use Rattle.sql_ast.specs.Values.{read, meaning, word, is_name, plain_name, reserved_or_name, parameter}
+use Rattle.sql_ast.specs.Values.{read, meaning, word, is_name, plain_name, reserved_or_name}
 use Rattle.sql_ast.specs.Words.{word_of}
 use Rattle.sql_lexer.specs.declared.machine.State.{State}
 use Rattle.sql_lexer.specs.declared.machine.State.TheVariants as t
-use Rattle.sql_lexer.specs.Machine.{step, whole, start}
+use Rattle.sql_lexer.specs.Machine.{step, whole}
 use Rattle.sql_print.proofs.Flows.{IsName}
 use Rattle.sql_print.proofs.LexedWalks.{run, run_step}
 use Rattle.sql_print.proofs.LexedSigns.{is_calm, is_angle, head_class, some_class, Lexing, read_is}

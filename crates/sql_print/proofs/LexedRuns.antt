@@ -1,22 +1,21 @@
 -- The text of a run of tokens that may stand beside each other is read as tokens that carry them, if each is read back alone.
-use Rattle.std.proofs.Common.{◌≡◌, inl, inr, ℕ, ◌+◌, Bool, true, false, not, ◌&&◌, ◌||◌, if◌then◌else◌, List, [], ◌∷◌, ◌++◌, length, map, codes, Option, Some, None, refl, sym, ◌∙◌, ap, subst, arith}
+use Rattle.std.proofs.Common.{◌≡◌, inl, inr, ℕ, ◌+◌, Bool, true, false, not, ◌&&◌, ◌||◌, if◌then◌else◌, List, [], ◌∷◌, ◌++◌, length, map, codes, None, refl, sym, ◌∙◌, ap, subst}
 use Rattle.std.proofs.lemmas.Bool.{and_parts, or_cases}
-use Rattle.std.proofs.lemmas.List.{append-nil, append_assoc}
 use Rattle.sql_ast.specs.declared.pieces.Class.{Class}
 use Rattle.sql_ast.specs.declared.pieces.Class.TheVariants as c
 use Rattle.sql_ast.specs.declared.token.Token.{Token}
 use Rattle.sql_ast.specs.declared.token.Lexeme.{Lexeme}
 use Rattle.sql_ast.specs.Classes.{class}
 use Rattle.sql_ast.specs.Marks.{Tokens}
-use Rattle.sql_ast.specs.Pieces.{Piece, lexeme_text, space, text_behind, text_of}
+use Rattle.sql_ast.specs.Pieces.{Piece, lexeme_text, text_behind, text_of}
 use Rattle.sql_ast.specs.Tokens.{Lexes, lexes_end}
 use Rattle.sql_ast.specs.Values.{is_dot}
 use Rattle.sql_lexer.specs.declared.machine.State.{State}
 use Rattle.sql_lexer.specs.Machine.{step}
-use Rattle.sql_print.proofs.Carried.{Carries, carries_none, carries_more, Touching}
+use Rattle.sql_print.proofs.Carried.{Carries, carries_none, carries_more}
 use Rattle.sql_print.proofs.Flows.{Fine, quiet, lettered, is_less, is_greater, is_reserved, fits, meets, ends_well, Runs, runs_last, runs_more, Flow, flow_none, flow_some}
 use Rattle.sql_print.proofs.LexedWalks.{Stopped, classes_append, lexes_one, lexes_space}
-use Rattle.sql_print.proofs.LexedSigns.{Lexing, head_class, some_class, is_calm, is_angle}
+use Rattle.sql_print.proofs.LexedSigns.{Lexing, head_class, some_class, is_angle}
 
 never : {A : Type 0} → false ≡ true → A
 never h = absurd (let g : true ≡ false = sym h in cc)

@@ -1,40 +1,36 @@
 -- Names in backquotes, literals and parameters are read back as themselves.
-use Rattle.std.proofs.Common.{◌≡◌, ℕ, suc, ◌+◌, ◌-◌, ◌*◌, ◌/◌, ◌%◌, ◌^◌, ◌<◌, ◌≤◌, Bool, true, false, cond, ◌==◌, ◌&&◌, ◌||◌, if◌then◌else◌, nat_le, nat_lt, List, [], ◌∷◌, ◌++◌, length, take, drop, get_or, map, decimal, Option, Some, None, refl, sym, ◌∙◌, ap, subst, append-nil, append_assoc, arith}
-use Rattle.std.proofs.lemmas.Bool.{and_parts, or_parts}
-use Rattle.std.proofs.lemmas.Bool.Decides.{nat_tests, Decides-eqb}
+use Rattle.std.proofs.Common.{◌≡◌, ℕ, suc, ◌+◌, ◌-◌, ◌/◌, ◌%◌, ◌<◌, ◌≤◌, Bool, true, false, ◌==◌, ◌||◌, if◌then◌else◌, nat_lt, List, [], ◌∷◌, ◌++◌, length, take, get_or, map, Option, Some, None, refl, sym, ◌∙◌, ap, subst, append-nil, arith}
+use Rattle.std.proofs.lemmas.Bool.{and_parts}
+use Rattle.std.proofs.lemmas.Bool.Decides.{nat_tests}
 use Rattle.std.proofs.lemmas.List.{length-append}
-use Rattle.std.proofs.lemmas.Str.{IsUtf8-append, IsUtf8-nil, IsUtf8-encode, encode_ascii, inside_one, len_utf8_bounds}
+use Rattle.std.proofs.lemmas.Str.{IsUtf8-append, IsUtf8-nil, IsUtf8-encode, encode_ascii, inside_one}
 use Rattle.std.specs.Prelude.{IsUtf8, encode_utf8, encode_utf8_all, option_map, option_and_then}
 use Rattle.std.specs.Char.{IsScalar}
 use Rattle.std.specs.List.{list_all}
 use Rattle.std.specs.Str.{all_scalars}
-use Rattle.sql_names.specs.Spelling.{hex_digit, escaped, escapes, is_plain, quote_name, quoted, quote_text}
+use Rattle.sql_names.specs.Spelling.{hex_digit, escaped, escapes, is_plain, quote_name, quoted}
 use Rattle.sql_ast.specs.declared.pieces.Class.{Class}
 use Rattle.sql_ast.specs.declared.pieces.Class.TheVariants as c
 use Rattle.sql_ast.specs.declared.pieces.Content.TheVariants as content
-use Rattle.sql_ast.specs.declared.pieces.LiteralPrefix.{LiteralPrefix}
-use Rattle.sql_ast.specs.declared.pieces.LiteralPrefix.TheVariants as prefix
 use Rattle.sql_ast.specs.declared.pieces.Mark.TheVariants as mark
-use Rattle.sql_ast.specs.declared.pieces.Quote.TheVariants as quote
-use Rattle.sql_ast.specs.declared.pieces.Quotes.TheVariants as quotes
 use Rattle.sql_ast.specs.declared.pieces.Shape.{Shape}
 use Rattle.sql_ast.specs.declared.pieces.Shape.TheVariants as s
 use Rattle.sql_ast.specs.declared.pieces.Piece.TheVariants as piece
 use Rattle.sql_ast.specs.declared.token.Lexeme.TheVariants as l
 use Rattle.sql_ast.specs.declared.words.Word.{Word}
-use Rattle.sql_ast.specs.Classes.{class, closes, is_after_less}
+use Rattle.sql_ast.specs.Classes.{class, is_after_less}
 use Rattle.sql_ast.specs.Pieces.{lexeme_text, word_if_plain}
-use Rattle.sql_ast.specs.Values.{read, meaning, inside, unescape, is_name, quoted_name, parameter, literal, literal_of}
+use Rattle.sql_ast.specs.Values.{read, meaning, inside, unescape, is_name, quoted_name}
 use Rattle.sql_ast.specs.Words.{word_of}
-use Rattle.sql_lexer.specs.declared.machine.State.{State}
 use Rattle.sql_lexer.specs.declared.machine.State.TheVariants as t
 use Rattle.sql_lexer.specs.Machine.{step, whole}
 use Rattle.sql_print.proofs.AsciiTexts.{is_ascii, ascii_byte, ascii_text}
 use Rattle.sql_print.proofs.Flows.{IsName}
-use Rattle.sql_print.proofs.LexedWalks.{run, run_step, run_more, classes_append, take_front}
-use Rattle.sql_print.proofs.LexedSigns.{Lexing, read_is, is_calm, head_class, some_class}
-use Rattle.sql_print.proofs.LexedNames.{plain_text, plain_lexing, plain_parameter}
-use Rattle.sql_print.proofs.LexedEscapes.{head_byte, run_text, run_name, text_says, name_says, text_first}
+use Rattle.sql_print.proofs.LexedWalks.{run, run_more, classes_append, take_front}
+use Rattle.sql_print.proofs.LexedSigns.{Lexing, read_is, head_class, some_class}
+use Rattle.sql_print.proofs.LexedNames.{plain_lexing}
+use Rattle.sql_print.proofs.LexedMarks.{run_name}
+use Rattle.sql_print.proofs.LexedEscapes.{name_says}
 
 never : {A : Type 0} → false ≡ true → A
 never h = absurd (let g : true ≡ false = sym h in cc)

@@ -1,12 +1,11 @@
 -- A token stands at the front of a text where the lexer's machine goes over it, and stops behind it.
-use Rattle.std.proofs.Common.{◌≡◌, ℕ, suc, ◌+◌, ◌<◌, ◌≤◌, Bool, true, false, cond, List, [], ◌∷◌, ◌++◌, length, take, drop, map, Option, Some, None, refl, sym, ◌∙◌, ap, subst, arith}
+use Rattle.std.proofs.Common.{◌≡◌, ℕ, suc, ◌+◌, Bool, cond, List, [], ◌∷◌, ◌++◌, length, take, drop, map, Option, Some, None, refl, sym, ◌∙◌, ap, subst, arith}
 use Rattle.std.proofs.lemmas.List.{length-map}
 use Rattle.std.proofs.lemmas.Str.{is_utf8-from_IsUtf8}
 use Rattle.fronts.specs.Fronts.{Front}
 use Rattle.fronts.specs.Machines.{walk}
 use Rattle.fronts.proofs.Walks.{walks}
 use Rattle.sql_ast.specs.declared.pieces.Class.{Class}
-use Rattle.sql_ast.specs.declared.pieces.Class.TheVariants as c
 use Rattle.sql_ast.specs.declared.pieces.Shape.{Shape}
 use Rattle.sql_ast.specs.declared.pieces.Shape.TheVariants as s
 use Rattle.sql_ast.specs.declared.pieces.Piece.TheVariants as piece

@@ -1,5 +1,5 @@
 -- What the tokens of a text hold: names of 1 to 128 bytes, texts in UTF-8, bytes below 256, and numbers below 2 ^ 64.
-use Rattle.std.proofs.Common.{◌≡◌, ℕ, zero, suc, ◌+◌, ◌-◌, ◌/◌, ◌%◌, ◌^◌, ◌<◌, ◌≤◌, Bool, true, false, cond, ◌==◌, ◌&&◌, ◌||◌, if◌then◌else◌, nat_le, nat_lt, List, [], ◌∷◌, ◌++◌, length, take, drop, map, Option, Some, None, refl, sym, ◌∙◌, ap, subst, arith}
+use Rattle.std.proofs.Common.{◌≡◌, ℕ, zero, suc, ◌+◌, ◌-◌, ◌/◌, ◌%◌, ◌^◌, ◌<◌, Bool, true, false, cond, ◌==◌, ◌&&◌, ◌||◌, if◌then◌else◌, nat_le, nat_lt, List, [], ◌∷◌, ◌++◌, length, take, drop, map, Option, Some, None, refl, sym, ◌∙◌, ap, subst, arith}
 use Rattle.std.proofs.lemmas.Bool.{and_parts}
 use Rattle.std.proofs.lemmas.Bool.Decides.{nat_tests}
 use Rattle.std.proofs.lemmas.List.{take-map}
@@ -27,7 +27,7 @@ use Rattle.sql_ast.specs.declared.token.Lexeme.{Lexeme}
 use Rattle.sql_ast.specs.declared.token.Lexeme.TheVariants as l
 use Rattle.sql_ast.specs.Classes.{class}
 use Rattle.sql_ast.specs.Forms.{Form}
-use Rattle.sql_ast.specs.Values.{read, meaning, word, plain_name, quoted_name, reserved_or_name, is_name, parameter, integer, number, are_digits, number_of, Escape, escape, after, unescape_from, unescape, one, numbered, coded, hexadecimal, octal, code_point, number_at_start, inside, enclosed, literal, literal_of, prefix_size, quotes_size, is_dot}
+use Rattle.sql_ast.specs.Values.{read, meaning, word, plain_name, quoted_name, reserved_or_name, is_name, parameter, integer, number, are_digits, number_of, Escape, escape, after, unescape_from, unescape, one, numbered, number_at_start, inside, enclosed, literal, literal_of, prefix_size, quotes_size, is_dot}
 use Rattle.sql_ast.specs.Tokens.{Lexes, lexes_end, lexes_gap, lexes_token}
 use Rattle.sql_lexer.specs.Marked.{Marked}
 use Rattle.sql_lexer.proofs.Marks.{literal_marked, name_marked, quoted_parameter_marked, parameter_starts}

@@ -4,6 +4,7 @@
 pub mod clauses;
 pub mod exprs;
 pub mod from_items;
+pub mod laws;
 mod levels;
 pub mod names;
 pub mod operands;

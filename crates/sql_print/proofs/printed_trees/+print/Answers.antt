@@ -7,7 +7,8 @@ use Rattle.sql_ast.specs.declared.query.Primary.TheVariants as primary
 use Rattle.sql_ast.specs.declared.query.Term.{out-Term}
 use Rattle.sql_ast.specs.declared.query.Term.TheVariants as term
 use Rattle.sql_print.proofs.PageLaws.{written_append}
-use Rattle.sql_print.proofs.CanonLaws.{pieces_expr, pieces_at, print_primary, primary_at, print_term, term_at, print_from, print_joined, print_select, print_query}
+use Rattle.sql_print.proofs.CanonFroms.{primary_at}
+use Rattle.sql_print.proofs.CanonLaws.{pieces_expr, pieces_at, print_primary, print_term, term_at, print_from, print_joined, print_select, print_query}
 use Rattle.sql_print.proofs.printed_trees.+print.Goals as goal
 
 pub ExprPrinted::print-returns-in-Or : goal.ExprPrinted::print-returns-in-Or
