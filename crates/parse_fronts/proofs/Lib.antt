@@ -1,0 +1,3 @@
+pub mod FrontLaws
+pub mod PartLaws
+pub mod StarLaws
