@@ -1,3 +1,4 @@
+pub mod NumeralLaws
 pub mod PageLaws
 pub mod TextLaws
 pub mod FitLaws

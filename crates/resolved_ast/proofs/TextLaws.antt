@@ -1,5 +1,5 @@
 -- The text of a tree, one level at a time: each node is its line, and then what its own parts say, two spaces further in.
-use Rattle.std.proofs.Common.{◌≡◌, List, [], ◌∷◌, ◌++◌, map, codes, decimal, None, Some, refl, sym, ◌∙◌, ap}
+use Rattle.std.proofs.Common.{◌≡◌, List, [], ◌∷◌, ◌++◌, map, codes, None, Some, refl, sym, ◌∙◌, ap}
 use Rattle.sql_names.specs.Spelling.{quote_name}
 use Rattle.sql_types.specs.TypeText.{type_text}
 use Rattle.sql_ast.specs.Literals.{LiteralText}
@@ -10,6 +10,7 @@ use Rattle.resolved_ast.specs.declared.rex.Rex.TheOpen as t
 use Rattle.resolved_ast.specs.declared.scan.Cte.{Cte}
 use Rattle.resolved_ast.specs.declared.scan.Scan.{Scan, out-Scan, roll-out-Scan, map-Scan, fold-roll-Scan}
 use Rattle.resolved_ast.specs.Lines.{each_text, compute_of, cte_of}
+use Rattle.resolved_ast.specs.Numeral.{numeral}
 use Rattle.resolved_ast.specs.Pages.{Page, written, below}
 use Rattle.resolved_ast.specs.Parts.{there}
 use Rattle.resolved_ast.specs.SignatureNames.{signature_name}
@@ -63,7 +64,7 @@ rex_page (t.InArray sought array) page = below (below (written page (line (codes
 rex_page (t.Let ty bindings expr) page = below (below (written page (line (codes "Let") (type_text ty ∷ []) page.margin)) (each_text (compute_of RexText) bindings)) (RexText expr)
 rex_page (t.MakeArray ty parts) page = below (written page (line (codes "MakeArray") (type_text ty ∷ []) page.margin)) (each_text RexText parts)
 rex_page (t.MakeStruct ty parts) page = below (written page (line (codes "MakeStruct") (type_text ty ∷ []) page.margin)) (each_text RexText parts)
-rex_page (t.Field place ty expr) page = below (written page (line (codes "Field") (decimal place ∷ type_text ty ∷ []) page.margin)) (RexText expr)
+rex_page (t.Field place ty expr) page = below (written page (line (codes "Field") (numeral place ∷ type_text ty ∷ []) page.margin)) (RexText expr)
 rex_page (t.Index form ty array index) page = below (below (written page (line (codes "Index") (form_text form ∷ type_text ty ∷ []) page.margin)) (RexText array)) (RexText index)
 rex_page (t.Scalar ty column outer scan) page = below (written page (line (codes "Scalar") (type_text ty ∷ ref_text column ∷ list_text ref_text outer ∷ []) page.margin)) (ScanText scan)
 rex_page (t.ArrayOf ty column outer scan) page = below (written page (line (codes "ArrayOf") (type_text ty ∷ ref_text column ∷ list_text ref_text outer ∷ []) page.margin)) (ScanText scan)
@@ -93,7 +94,7 @@ rex_paged (t.InArray sought array) page = wrote_node page (codes "InArray") ([])
 rex_paged (t.Let ty bindings expr) page = wrote_node page (codes "Let") (type_text ty ∷ []) (map compute_text (map shown_compute bindings) ++ RexText expr ∷ []) ∙ below_append (written page (line (codes "Let") (type_text ty ∷ []) page.margin)) (map compute_text (map shown_compute bindings)) (RexText expr ∷ []) ∙ ap (λ q. below q (RexText expr)) (below_computes (written page (line (codes "Let") (type_text ty ∷ []) page.margin)) bindings)
 rex_paged (t.MakeArray ty parts) page = wrote_node page (codes "MakeArray") (type_text ty ∷ []) (map RexText parts) ∙ below_each (written page (line (codes "MakeArray") (type_text ty ∷ []) page.margin)) (map RexText parts)
 rex_paged (t.MakeStruct ty parts) page = wrote_node page (codes "MakeStruct") (type_text ty ∷ []) (map RexText parts) ∙ below_each (written page (line (codes "MakeStruct") (type_text ty ∷ []) page.margin)) (map RexText parts)
-rex_paged (t.Field place ty expr) page = wrote_node page (codes "Field") (decimal place ∷ type_text ty ∷ []) (RexText expr ∷ [])
+rex_paged (t.Field place ty expr) page = wrote_node page (codes "Field") (numeral place ∷ type_text ty ∷ []) (RexText expr ∷ [])
 rex_paged (t.Index form ty array index) page = wrote_node page (codes "Index") (form_text form ∷ type_text ty ∷ []) (RexText array ∷ RexText index ∷ [])
 rex_paged (t.Scalar ty column outer scan) page = wrote_node page (codes "Scalar") (type_text ty ∷ ref_text column ∷ list_text ref_text outer ∷ []) (ScanText scan ∷ [])
 rex_paged (t.ArrayOf ty column outer scan) page = wrote_node page (codes "ArrayOf") (type_text ty ∷ ref_text column ∷ list_text ref_text outer ∷ []) (ScanText scan ∷ [])
@@ -104,7 +105,7 @@ abbrev pub scan_page : Scan-F Rex Scan → Page → Page
 scan_page t.Single page = written page (line (codes "Single") ([]) page.margin)
 scan_page (t.Table name number columns) page = written page (line (codes "Table") (quote_name name ∷ list_text made_text columns ∷ []) page.margin)
 scan_page (t.With ctes scan) page = below (below (written page (line (codes "With") ([]) page.margin)) (each_text (cte_of ScanText) ctes)) (ScanText scan)
-scan_page (t.CteRef number columns) page = written page (line (codes "CteRef") (decimal number ∷ list_text made_text columns ∷ []) page.margin)
+scan_page (t.CteRef number columns) page = written page (line (codes "CteRef") (numeral number ∷ list_text made_text columns ∷ []) page.margin)
 scan_page (t.Unnest kind element offset scan array condition) page = below (below (below (written page (line (codes "Unnest") (unnest_text kind ∷ made_text element ∷ or_dash made_text offset ∷ []) page.margin)) (ScanText scan)) (RexText array)) (each_text RexText (there condition))
 scan_page (t.Join kind left right condition) page = below (below (below (written page (line (codes "Join") (join_text kind ∷ []) page.margin)) (ScanText left)) (ScanText right)) (each_text RexText (there condition))
 scan_page (t.Filter scan condition) page = below (below (written page (line (codes "Filter") ([]) page.margin)) (ScanText scan)) (RexText condition)
@@ -114,7 +115,7 @@ scan_paged : (z : Scan-F Rex Scan) (page : Page) → written page (scan_text (ma
 scan_paged t.Single page = wrote_node page (codes "Single") ([]) []
 scan_paged (t.Table name number columns) page = wrote_node page (codes "Table") (quote_name name ∷ list_text made_text columns ∷ []) []
 scan_paged (t.With ctes scan) page = wrote_node page (codes "With") ([]) (map cte_text (map shown_cte ctes) ++ ScanText scan ∷ []) ∙ below_append (written page (line (codes "With") ([]) page.margin)) (map cte_text (map shown_cte ctes)) (ScanText scan ∷ []) ∙ ap (λ q. below q (ScanText scan)) (below_ctes (written page (line (codes "With") ([]) page.margin)) ctes)
-scan_paged (t.CteRef number columns) page = wrote_node page (codes "CteRef") (decimal number ∷ list_text made_text columns ∷ []) []
+scan_paged (t.CteRef number columns) page = wrote_node page (codes "CteRef") (numeral number ∷ list_text made_text columns ∷ []) []
 scan_paged (t.Unnest kind element offset scan array None) page = wrote_node page (codes "Unnest") (unnest_text kind ∷ made_text element ∷ or_dash made_text offset ∷ []) (ScanText scan ∷ RexText array ∷ map RexText (there None)) ∙ below_each (below (below (written page (line (codes "Unnest") (unnest_text kind ∷ made_text element ∷ or_dash made_text offset ∷ []) page.margin)) (ScanText scan)) (RexText array)) (map RexText (there None))
 scan_paged (t.Unnest kind element offset scan array (Some condition)) page = wrote_node page (codes "Unnest") (unnest_text kind ∷ made_text element ∷ or_dash made_text offset ∷ []) (ScanText scan ∷ RexText array ∷ map RexText (there (Some condition))) ∙ below_each (below (below (written page (line (codes "Unnest") (unnest_text kind ∷ made_text element ∷ or_dash made_text offset ∷ []) page.margin)) (ScanText scan)) (RexText array)) (map RexText (there (Some condition)))
 scan_paged (t.Join kind left right None) page = wrote_node page (codes "Join") (join_text kind ∷ []) (ScanText left ∷ ScanText right ∷ map RexText (there None)) ∙ below_each (below (below (written page (line (codes "Join") (join_text kind ∷ []) page.margin)) (ScanText left)) (ScanText right)) (map RexText (there None))

@@ -1,5 +1,5 @@
 -- The text of a whole tree, by computation.
-use Rattle.std.proofs.Common.{◌≡◌, ℕ, pos, List, [], ◌∷◌, codes, Some, decimal, refl, sym, ◌∙◌, ap, arith}
+use Rattle.std.proofs.Common.{◌≡◌, ℕ, pos, List, [], ◌∷◌, codes, Some, refl, sym, ◌∙◌, ap, arith}
 use Rattle.std.proofs.lemmas.Fmt.{decimal_digit}
 use Rattle.sql_names.specs.Spelling.{is_plain}
 use Rattle.sql_names.specs.Words.{reserved_of}
@@ -21,7 +21,9 @@ use Rattle.resolved_ast.specs.declared.rex.Rex.TheOpen as t
 use Rattle.resolved_ast.specs.declared.scan.Scan.{Scan, out-Scan, map-Scan}
 use Rattle.resolved_ast.specs.declared.scan.Scan.TheVariants as scan
 use Rattle.resolved_ast.specs.declared.scan.Tree.{Tree}
+use Rattle.resolved_ast.specs.Numeral.{numeral}
 use Rattle.resolved_ast.specs.TreeText.{Shown, TreeText, RexText, ScanText, rex_text, scan_text, node, list_text, output_text}
+use Rattle.resolved_ast.proofs.NumeralLaws.{one_digit}
 use Rattle.resolved_ast.proofs.TextLaws.{text_rex, text_scan}
 
 bool_text : type_text ty.Bool ≡ codes "BOOL"
@@ -40,11 +42,11 @@ two_text : LiteralText (value.Int (pos 2)) ≡ codes "2"
 unfolding LiteralText
 two_text = ap (fold-Value (List ℕ) literal_layer) (sym (value.rolls-Int (pos 2))) ∙ fold-roll-Value (List ℕ) literal_layer (v.Int (pos 2)) ∙ decimal_digit 2 (omega arith)
 
-one_text : decimal 1 ≡ codes "1"
-one_text = decimal_digit 1 (omega arith)
+one_text : numeral 1 ≡ codes "1"
+one_text = sym (one_digit 1 (omega arith))
 
-second_text : decimal 2 ≡ codes "2"
-second_text = decimal_digit 2 (omega arith)
+second_text : numeral 2 ≡ codes "2"
+second_text = sym (one_digit 2 (omega arith))
 
 a : ColumnRef
 a = record { name = Some (codes "a"); id = record { 0 = 1 } }

@@ -1,3 +1,4 @@
+pub mod Numeral
 pub mod Parts
 pub mod SignatureNames
 pub mod TreeText

@@ -1,5 +1,5 @@
 -- The text of a resolved tree: one line a node, and below it, two spaces further in, the lines of its parts.
-use Rattle.std.specs.Prelude.{ℕ, List, [], ◌∷◌, ◌++◌, map, codes, decimal, Option, None, Some}
+use Rattle.std.specs.Prelude.{ℕ, List, [], ◌∷◌, ◌++◌, map, codes, Option, None, Some}
 use Rattle.sql_types.specs.declared.kinds.JoinKind.{JoinKind}
 use Rattle.sql_types.specs.declared.kinds.JoinKind.TheVariants as join
 use Rattle.sql_types.specs.TypeText.{type_text}
@@ -20,6 +20,7 @@ use Rattle.resolved_ast.specs.declared.scan.Scan.{Scan, fold-Scan}
 use Rattle.resolved_ast.specs.declared.scan.Tree.{Tree}
 use Rattle.resolved_ast.specs.declared.scan.UnnestKind.{UnnestKind}
 use Rattle.resolved_ast.specs.declared.scan.UnnestKind.TheVariants as unnest
+use Rattle.resolved_ast.specs.Numeral.{numeral}
 use Rattle.resolved_ast.specs.Parts.{there}
 use Rattle.resolved_ast.specs.SignatureNames.{signature_name}
 
@@ -32,11 +33,11 @@ name_text (Some name) = quote_name name
 
 -- a column: its name, and its number after `#`
 abbrev pub ref_text : ColumnRef → List ℕ
-ref_text c = name_text c.name ++ codes "#" ++ decimal c.id.0
+ref_text c = name_text c.name ++ codes "#" ++ numeral c.id.0
 
 -- a column where it is made: also its type
 abbrev pub made_text : MadeColumn → List ℕ
-made_text c = (name_text c.name ++ codes "#" ++ decimal c.id.0) ++ codes " " ++ type_text c.ty
+made_text c = (name_text c.name ++ codes "#" ++ numeral c.id.0) ++ codes " " ++ type_text c.ty
 
 -- a column of the answer: its name there, and the column with its type
 abbrev pub output_text : Output → List ℕ
@@ -96,7 +97,7 @@ abbrev pub compute_text : Compute Shown → Shown
 compute_text c = node (codes "Compute") (made_text c.column ∷ []) (c.expr ∷ [])
 
 abbrev pub cte_text : Cte Shown → Shown
-cte_text c = node (codes "Cte") (decimal c.number ∷ list_text ref_text c.columns ∷ []) (c.scan ∷ [])
+cte_text c = node (codes "Cte") (numeral c.number ∷ list_text ref_text c.columns ∷ []) (c.scan ∷ [])
 
 -- an expression, over the texts of its parts
 abbrev pub rex_text : Rex-F Shown Shown → Shown
@@ -122,7 +123,7 @@ rex_text (t.InArray sought array) = node (codes "InArray") [] (sought ∷ array 
 rex_text (t.Let ty bindings expr) = node (codes "Let") (type_text ty ∷ []) (map compute_text bindings ++ expr ∷ [])
 rex_text (t.MakeArray ty parts) = node (codes "MakeArray") (type_text ty ∷ []) parts
 rex_text (t.MakeStruct ty parts) = node (codes "MakeStruct") (type_text ty ∷ []) parts
-rex_text (t.Field place ty expr) = node (codes "Field") (decimal place ∷ type_text ty ∷ []) (expr ∷ [])
+rex_text (t.Field place ty expr) = node (codes "Field") (numeral place ∷ type_text ty ∷ []) (expr ∷ [])
 rex_text (t.Index form ty array index) = node (codes "Index") (form_text form ∷ type_text ty ∷ []) (array ∷ index ∷ [])
 rex_text (t.Scalar ty column outer scan) =
     node (codes "Scalar") (type_text ty ∷ ref_text column ∷ list_text ref_text outer ∷ []) (scan ∷ [])
@@ -137,7 +138,7 @@ abbrev pub scan_text : Scan-F Shown Shown → Shown
 scan_text t.Single = node (codes "Single") [] []
 scan_text (t.Table name number columns) = node (codes "Table") (quote_name name ∷ list_text made_text columns ∷ []) []
 scan_text (t.With ctes scan) = node (codes "With") [] (map cte_text ctes ++ scan ∷ [])
-scan_text (t.CteRef number columns) = node (codes "CteRef") (decimal number ∷ list_text made_text columns ∷ []) []
+scan_text (t.CteRef number columns) = node (codes "CteRef") (numeral number ∷ list_text made_text columns ∷ []) []
 scan_text (t.Unnest kind element offset scan array condition) =
     node (codes "Unnest") (unnest_text kind ∷ made_text element ∷ or_dash made_text offset ∷ []) (scan ∷ array ∷ there condition)
 scan_text (t.Join kind left right condition) = node (codes "Join") (join_text kind ∷ []) (left ∷ right ∷ there condition)

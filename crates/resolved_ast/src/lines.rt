@@ -1,9 +1,10 @@
 //! The lines of nodes, each with the fields that its node has.
-ghost use Rattle.std.specs.Prelude.{◌≡◌, OnOk, List, [], ◌∷◌, codes, decimal, true};
+ghost use Rattle.std.specs.Prelude.{◌≡◌, OnOk, List, [], ◌∷◌, codes, true};
 ghost use Rattle.sql_names.specs.Spelling.{quote_name};
 ghost use Rattle.sql_types.specs.Fits.{fits};
 ghost use Rattle.sql_types.specs.TypeText.{type_text};
 ghost use Rattle.sql_ast.specs.Literals.{LiteralText};
+ghost use Rattle.resolved_ast.specs.Numeral.{numeral};
 ghost use Rattle.resolved_ast.specs.Pages as pages;
 ghost use Rattle.resolved_ast.specs.SignatureNames as names;
 ghost use Rattle.resolved_ast.specs.TreeText as text;
@@ -94,7 +95,7 @@ pub fn call_line(
 /// A Field: its place and its type.
 #[tactic(auto, using(crate::proofs::PageLaws::written_append, crate::proofs::PageLaws::written_field, crate::proofs::PageLaws::written_none))]
 pub fn field_line(page: &mut Page, place: usize, ty: &SqlType) -> Result<(), AllocError>
-    ensures { OnOk result (page.new ≡ pages.written page.old (text.line (codes "Field") (decimal place ∷ type_text ty.now ∷ []) page.old.margin)) }
+    ensures { OnOk result (page.new ≡ pages.written page.old (text.line (codes "Field") (numeral place ∷ type_text ty.now ∷ []) page.old.margin)) }
 {
     page.open(b"Field")?;
     page.number(place as u64)?;
@@ -156,7 +157,7 @@ pub fn table_line(page: &mut Page, name: &Text, columns: &MadeColumns) -> Result
 /// A Cte: its number, and the columns that it gives.
 #[tactic(auto, using(crate::proofs::PageLaws::written_append, crate::proofs::PageLaws::written_field, crate::proofs::PageLaws::written_none))]
 pub fn cte_line(page: &mut Page, number: u64, columns: &ColumnRefs) -> Result<(), AllocError>
-    ensures { OnOk result (page.new ≡ pages.written page.old (text.line (codes "Cte") (decimal number ∷ text.list_text text.ref_text columns.now ∷ []) page.old.margin)) }
+    ensures { OnOk result (page.new ≡ pages.written page.old (text.line (codes "Cte") (numeral number ∷ text.list_text text.ref_text columns.now ∷ []) page.old.margin)) }
 {
     page.open(b"Cte")?;
     page.number(number)?;
@@ -167,7 +168,7 @@ pub fn cte_line(page: &mut Page, number: u64, columns: &ColumnRefs) -> Result<()
 /// A CteRef: the number, and the columns that it makes.
 #[tactic(auto, using(crate::proofs::PageLaws::written_append, crate::proofs::PageLaws::written_field, crate::proofs::PageLaws::written_none))]
 pub fn cte_ref_line(page: &mut Page, number: u64, columns: &MadeColumns) -> Result<(), AllocError>
-    ensures { OnOk result (page.new ≡ pages.written page.old (text.line (codes "CteRef") (decimal number ∷ text.list_text text.made_text columns.now ∷ []) page.old.margin)) }
+    ensures { OnOk result (page.new ≡ pages.written page.old (text.line (codes "CteRef") (numeral number ∷ text.list_text text.made_text columns.now ∷ []) page.old.margin)) }
 {
     page.open(b"CteRef")?;
     page.number(number)?;

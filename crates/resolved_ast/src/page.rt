@@ -1,13 +1,13 @@
 //! A page on which the lines of a tree are written.
-ghost use Rattle.std.specs.Prelude.{◌≡◌, ◌++◌, OnOk, codes, decimal, length, true};
+ghost use Rattle.std.specs.Prelude.{◌≡◌, ◌++◌, OnOk, codes, length, true};
 ghost use Rattle.sql_names.specs.Spelling.{quote_name};
 ghost use Rattle.sql_types.specs.TypeText.{type_text};
 ghost use Rattle.sql_ast.specs.Literals.{LiteralText, dates_fit};
+ghost use Rattle.resolved_ast.specs.Numeral.{numeral};
 ghost use Rattle.resolved_ast.specs.Pages as pages;
 ghost use Rattle.resolved_ast.specs.TreeText as text;
 
-use crate::spelled::{Spelled, write_list};
-use itoa::Buffer;
+use crate::spelled::{Spelled, write_list, write_number};
 use sql_ast::spelling::write_name;
 use sql_ast::write_literal;
 use sql_types::{Bytes, Items, SqlType, Text, Value, write_type};
@@ -86,12 +86,10 @@ impl Page {
     /// A field that is a number.
     #[tactic(auto, unfolding(crate::specs::Pages::written))]
     pub fn number(&mut self, number: u64) -> Result<(), AllocError>
-        ensures { OnOk result (self.new ≡ pages.written self.old (codes " " ++ decimal number)) }
+        ensures { OnOk result (self.new ≡ pages.written self.old (codes " " ++ numeral number)) }
     {
         self.text.extend_from_slice(b" ")?;
-        let mut buffer = Buffer::new();
-        self.text
-            .extend_from_slice(buffer.format(number).as_bytes())
+        write_number(&mut self.text, number)
     }
 
     /// A field that is a type.

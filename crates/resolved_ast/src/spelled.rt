@@ -1,6 +1,7 @@
 //! How columns are spelled in the text of a tree, and lists of them.
 ghost use Rattle.std.specs.Prelude.{◌≡◌, ◌++◌, OnOk, List, ℕ, codes, decimal, map};
 ghost use Rattle.sql_names.specs.Commas.{joined};
+ghost use Rattle.resolved_ast.specs.Numeral.{numeral};
 ghost use Rattle.resolved_ast.specs.TreeText as text;
 
 use crate::column::{ColumnId, ColumnRef, MadeColumn};
@@ -30,14 +31,27 @@ fn write_name_of(out: &mut Vec<u8>, name: &Option<Text>) -> Result<(), AllocErro
     Ok(())
 }
 
+fn write_digits(out: &mut Vec<u8>, number: u64) -> Result<(), AllocError>
+    ensures { OnOk result (out.new.items ≡ out.old.items ++ decimal number) }
+{
+    let mut buffer = Buffer::new();
+    out.extend_from_slice(buffer.format(number).as_bytes())
+}
+
+/// A number, with all its digits.
+pub fn write_number(out: &mut Vec<u8>, number: u64) -> Result<(), AllocError>
+    ensures { OnOk result (out.new.items ≡ out.old.items ++ numeral number) }
+{
+    write_digits(out, number)
+}
+
 /// The name of a column, and its number after `#`.
 fn write_column(out: &mut Vec<u8>, name: &Option<Text>, id: ColumnId) -> Result<(), AllocError>
-    ensures { OnOk result (out.new.items ≡ out.old.items ++ (text.name_text name.now ++ codes "#" ++ decimal id.0)) }
+    ensures { OnOk result (out.new.items ≡ out.old.items ++ (text.name_text name.now ++ codes "#" ++ numeral id.0)) }
 {
     write_name_of(out, name)?;
     out.extend_from_slice(b"#")?;
-    let mut buffer = Buffer::new();
-    out.extend_from_slice(buffer.format(id.0).as_bytes())
+    write_number(out, id.0)
 }
 
 impl Spelled for ColumnRef {

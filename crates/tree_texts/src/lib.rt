@@ -1,0 +1,4 @@
+//! The text of a resolved tree tells the tree.
+#![tactic(auto)]
+
+pub mod laws;
