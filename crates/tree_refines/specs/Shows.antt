@@ -31,7 +31,8 @@ counted first zero = []
 counted first (suc n) = first ∷ counted (suc first) n
 
 -- The columns that the tree makes are numbered from 1 on in the order of its text. No node stands for a view, a function or a form
--- that the rewriters take away, so the text has none of these forms.
-pub record Keeps (tree : Tree) (query : Query) : Type 0 where
+-- that the rewriters take away, so the catalog has no view and no function, and the text none of these forms.
+pub record Keeps (catalog : Entries) (tree : Tree) (query : Query) : Type 0 where
   pub numbered : made_columns tree.scan ≡ counted 1 (length (made_columns tree.scan))
+  pub undefined : catalog.definitions ≡ []
   pub plain : Plain query

@@ -1,5 +1,5 @@
--- Trees and catalogs whose names and types can be written in a text.
-use Rattle.std.specs.Prelude.{◌≡◌, ℕ, ◌≤◌, Bool, true, false, ◌&&◌, not, nat_le, List, map, length, Option, None, Some, Ok}
+-- Trees and catalogs whose names and types are those of texts.
+use Rattle.std.specs.Prelude.{◌≡◌, ℕ, ◌≤◌, Bool, true, false, ◌&&◌, not, nat_le, List, ◌++◌, map, length, Option, None, Some, Ok}
 use Rattle.std.specs.List.{list_all, IsDistinct}
 use Rattle.sql_types.specs.declared.sql_type.Named.{Named}
 use Rattle.sql_types.specs.declared.sql_type.SqlType.{SqlType, out-SqlType, para-SqlType}
@@ -64,13 +64,13 @@ pub record TableSpelt (node : TableNode) : Type 0 where
   pub name : name_spelt node.name ≡ true
   pub columns : ColumnsSpelt (named node.columns)
 
--- A query can have this tree's outputs: there is one, and each name and each type can be written.
+-- A query may have this tree's outputs: there is one, and each name and each type is one of a text's.
 pub record Spelt (tree : Tree) : Type 0 where
   pub some : 1 ≤ length tree.outputs
   pub outputs : list_all (λ (o : Output). maybe_spelt o.name) tree.outputs ≡ true
   pub tables : Each TableSpelt (table_nodes tree.scan)
   pub params : Each (λ (p : ParamNode). name_spelt p.name ≡ true) (param_nodes tree.scan)
-  pub types : list_all type_spelt (types_in tree.scan) ≡ true
+  pub types : list_all type_spelt (map (λ (o : Output). o.ty) tree.outputs ++ types_in tree.scan) ≡ true
 
 -- ---- catalogs
 
