@@ -1,0 +1,15 @@
+pub mod OuterLaws
+pub mod RowsLaws
+pub mod TurnedLaws
+pub mod WholeLaws
+pub mod BaseLaws
+pub mod EachLaws
+pub mod CteLaws
+pub mod GatherLevels
+pub mod RexLevels
+pub mod ScanLevels
+pub mod ThenLaws
+pub mod NewLaws
+pub mod NumberLaws
+pub mod SightLaws
+pub mod FindingLaws

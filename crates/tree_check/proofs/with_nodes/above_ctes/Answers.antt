@@ -1,0 +1,19 @@
+-- The queries and the scan come behind the node.
+use Rattle.std.proofs.Common.{[], map}
+use Rattle.std.proofs.lemmas.Result.{err_from_is_err_and}
+use Rattle.resolved_ast.specs.Flaws.{with_walks}
+use Rattle.tree_check.specs.Orders.{order_of}
+use Rattle.tree_check.specs.Sights.{sight_of}
+use Rattle.tree_check.specs.WithWalks.{cte_part}
+use Rattle.tree_check.proofs.ThenLaws.{node_refused, node_passed}
+use Rattle.tree_check.proofs.with_nodes.above_ctes.Goals as goal
+
+pub returns-in_err-pass : goal.returns-in_err-pass
+returns-in_err-pass g c =
+    let p = err_from_is_err_and c.from_residual.result c.from_residual.ensures.1 in
+    rw (p.1, p.2) (node_refused (order_of c.args.order) [] (with_walks [] (map (cte_part g.S.Rows.scan_of g.S.Part.walk) c.args.ctes.now) (g.P.Rows.scan_of c.args.scan.now, g.P.Part.walk c.args.scan.now) (sight_of c.args.sight.now)) c.args.progress.now c.in_err-pass.field-0.0 c.in_err-pass.ensures)
+
+pub returns : goal.returns
+returns g c =
+    node_passed (order_of c.args.order) [] (with_walks [] (map (cte_part g.S.Rows.scan_of g.S.Part.walk) c.args.ctes.now) (g.P.Rows.scan_of c.args.scan.now, g.P.Part.walk c.args.scan.now) (sight_of c.args.sight.now)) c.args.progress.now c.pass.new.self c.check_ctes.new.progress c.check_ctes.result
+    c.in_ok-pass.ensures (rw (← c.as_slice.ensures) c.check_ctes.ensures)

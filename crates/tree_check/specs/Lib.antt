@@ -1,0 +1,14 @@
+pub mod TypesNamed
+pub mod Answered
+pub mod Opens
+pub mod WithWalks
+pub mod LetWalks
+pub mod Made
+pub mod Known
+pub mod Named
+pub mod Newest
+pub mod Walked
+pub mod Sights
+pub mod Orders
+pub mod Tests
+pub mod Gathered
