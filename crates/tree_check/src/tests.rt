@@ -1,8 +1,8 @@
 //! Trees with the first flaws that the rules give them. Nodes are numbered from 0, in the order of the tree's text.
 use crate::{CheckRefusal, check};
 use resolved_ast::{
-    ColumnId, ColumnRef, ColumnRefs, Compute, Cte, FlawKind, MadeColumn, MadeColumns, Output, Outputs,
-    Rex, Scan, Tree, UnnestKind,
+    ColumnId, ColumnRef, ColumnRefs, Compute, Cte, FlawKind, MadeColumn, MadeColumns, Output,
+    Outputs, Rex, Scan, Tree, UnnestKind,
 };
 use sql_ast::IndexForm;
 use sql_builtins::SigId;
@@ -162,7 +162,10 @@ fn the_seven_lines(rt: HostRuntime) -> Result<(), Fail> {
 fn columns_and_calls(rt: HostRuntime) -> Result<(), Fail> {
     let alloc = rt.alloc();
     // a column that nobody makes, and one of this query as one of an outer query
-    assert_eq!(rt; flaw_below(alloc, seen(alloc, 9)?)?, Some((5, FlawKind::Unseen)));
+    assert_eq!(rt;
+        flaw_below(alloc, seen(alloc, 9)?)?,
+        Some((5, FlawKind::Unseen))
+    );
     let outer = Rex::Outer {
         column: column(alloc, 1)?,
         ty: SqlType::Int64,
@@ -257,7 +260,10 @@ fn truth_and_faults(rt: HostRuntime) -> Result<(), Fail> {
         ty: SqlType::Int64,
         operands: parts(alloc, two(), two())?,
     };
-    assert_eq!(rt; flaw_below(alloc, two_operands)?, Some((5, FlawKind::Shape)));
+    assert_eq!(rt;
+        flaw_below(alloc, two_operands)?,
+        Some((5, FlawKind::Shape))
+    );
     let tried = Rex::IsError {
         ty: SqlType::Int64,
         operands: part(alloc, two())?,
@@ -403,10 +409,19 @@ fn subqueries(rt: HostRuntime) -> Result<(), Fail> {
 fn scans(rt: HostRuntime) -> Result<(), Fail> {
     let alloc = rt.alloc();
     // a column of the answer that the scan doesn't give
-    assert_eq!(rt; scan_flaw(alloc, Scan::Single)?, Some((0, FlawKind::Unseen)));
+    assert_eq!(rt;
+        scan_flaw(alloc, Scan::Single)?,
+        Some((0, FlawKind::Unseen))
+    );
     // a number made twice, and the number 0
-    assert_eq!(rt; scan_flaw(alloc, table(alloc, 1, 1)?)?, Some((1, FlawKind::Id)));
-    assert_eq!(rt; scan_flaw(alloc, table(alloc, 1, 0)?)?, Some((1, FlawKind::Id)));
+    assert_eq!(rt;
+        scan_flaw(alloc, table(alloc, 1, 1)?)?,
+        Some((1, FlawKind::Id))
+    );
+    assert_eq!(rt;
+        scan_flaw(alloc, table(alloc, 1, 0)?)?,
+        Some((1, FlawKind::Id))
+    );
     // CROSS with a condition, and INNER without one
     let cross = Scan::Join {
         kind: JoinKind::Cross,
@@ -464,10 +479,19 @@ fn with_lists(rt: HostRuntime) -> Result<(), Fail> {
     let alloc = rt.alloc();
     assert_eq!(rt; scan_flaw(alloc, with_two(alloc, 1, 2, 1)?)?, None);
     // a number twice in one list, at the second Cte, and a reference to a query that isn't in sight
-    assert_eq!(rt; scan_flaw(alloc, with_two(alloc, 1, 1, 1)?)?, Some((4, FlawKind::Id)));
-    assert_eq!(rt; scan_flaw(alloc, with_two(alloc, 1, 2, 2)?)?, Some((5, FlawKind::Unseen)));
+    assert_eq!(rt;
+        scan_flaw(alloc, with_two(alloc, 1, 1, 1)?)?,
+        Some((4, FlawKind::Id))
+    );
+    assert_eq!(rt;
+        scan_flaw(alloc, with_two(alloc, 1, 2, 2)?)?,
+        Some((5, FlawKind::Unseen))
+    );
     // a Project of a column that its scan doesn't give
-    assert_eq!(rt; scan_flaw(alloc, project(alloc, 9, table(alloc, 1, 2)?)?)?, Some((0, FlawKind::Unseen)));
+    assert_eq!(rt;
+        scan_flaw(alloc, project(alloc, 9, table(alloc, 1, 2)?)?)?,
+        Some((0, FlawKind::Unseen))
+    );
     Ok(())
 }
 
