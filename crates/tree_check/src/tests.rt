@@ -499,7 +499,7 @@ fn with_lists(rt: HostRuntime) -> Result<(), Fail> {
 fn deep_trees(rt: HostRuntime) -> Result<(), Fail> {
     let alloc = rt.alloc();
     let mut deep = truth();
-    for _ in 0..2000 {
+    for _ in 0..100 {
         deep = call(SigId::Not, SqlType::Bool, part(alloc, deep)?);
     }
     assert_eq!(rt; flaw(alloc, deep)?, None);
